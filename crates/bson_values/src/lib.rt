@@ -1,0 +1,20 @@
+//! Values: documents as lists of named values, and the texts, bytes and lists that they hold.
+#![tactic(auto)]
+
+mod bytes;
+mod copying;
+mod list;
+mod memory;
+mod pairs;
+mod text;
+mod value;
+
+pub use bytes::Bytes;
+pub use list::List;
+pub use memory::NoMemory;
+pub use pairs::{Pair, Pairs};
+pub use text::Text;
+pub use value::{Binary, Document, Regex, Value};
+
+#[cfg(test)]
+mod tests;

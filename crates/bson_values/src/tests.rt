@@ -1,0 +1,83 @@
+use crate::{Binary, Bytes, Document, List, NoMemory, Regex, Text, Value};
+use std::alloc::Global;
+use std::test::Fail;
+
+fn text(alloc: Global, words: &str) -> Result<Text, NoMemory> {
+    Text::of(alloc, words)
+}
+
+fn push(document: &mut Document, name: Text, value: Value) -> Result<(), NoMemory> {
+    document.push(name, value).map_err(|_| NoMemory)
+}
+
+/// A document with a value of each type, and a name that stands twice.
+fn sample(alloc: Global) -> Result<Document, NoMemory> {
+    let mut inner = Document::new(alloc);
+    push(&mut inner, text(alloc, "b")?, Value::Bool(true))?;
+    let mut items = List::new(alloc);
+    items.push(Value::Null).map_err(|_| NoMemory)?;
+    let mut document = Document::new(alloc);
+    push(&mut document, text(alloc, "_id")?, Value::Id([7; 12]))?;
+    push(&mut document, text(alloc, "a")?, Value::Int(-1))?;
+    push(
+        &mut document,
+        text(alloc, "a")?,
+        Value::Str(text(alloc, "second")?),
+    )?;
+    push(&mut document, text(alloc, "d")?, Value::Doc(inner))?;
+    push(&mut document, text(alloc, "e")?, Value::Arr(items))?;
+    let bytes = Bytes::of(alloc, &[0, 255])?;
+    push(
+        &mut document,
+        text(alloc, "f")?,
+        Value::Bin(Binary { subtype: 5, bytes }),
+    )?;
+    push(&mut document, text(alloc, "g")?, Value::Date(-2))?;
+    let pattern = text(alloc, "^x")?;
+    let options = text(alloc, "i")?;
+    push(
+        &mut document,
+        text(alloc, "h")?,
+        Value::Regex(Regex { pattern, options }),
+    )?;
+    push(&mut document, text(alloc, "i")?, Value::Stamp(3))?;
+    push(&mut document, text(alloc, "j")?, Value::Long(4))?;
+    Ok(document)
+}
+
+#[test]
+fn a_copy_with_ample_memory_is_made_of_each_type(rt: HostRuntime) -> Result<(), Fail> {
+    let document = sample(rt.alloc())?;
+    let copied = document.copy(rt.alloc())?;
+    assert_eq!(rt; copied.len(), 10);
+    assert!(rt;
+        matches!(copied.get("a"), Some(Value::Int(-1))),
+        "the first of the name"
+    );
+    assert!(rt; matches!(copied.get("z"), None));
+    let Some((name, Value::Bin(binary))) = copied.pair(5) else {
+        panic!(rt; "no binary at 5");
+    };
+    assert_eq!(rt; name, "f");
+    assert_eq!(rt; binary.bytes.as_slice(), [0, 255].as_slice());
+    assert!(rt; matches!(copied.pair(10), None));
+    Ok(())
+}
+
+#[test]
+fn texts_bytes_and_lists_go_in_and_out_with_ample_memory(rt: HostRuntime) -> Result<(), Fail> {
+    let again = Text::of(rt.alloc(), "p\0q")?.copy(rt.alloc())?;
+    assert_eq!(rt; Text::from_string(again.into_string()).as_str(), "p\0q");
+    let mut bytes = Bytes::new(rt.alloc());
+    bytes.extend(&[1, 2, 3])?;
+    bytes.truncate(2);
+    assert_eq!(rt;
+        bytes.copy(rt.alloc())?.into_vec().as_slice(),
+        [1, 2].as_slice()
+    );
+    let mut numbers = List::new(rt.alloc());
+    numbers.push(8u8).map_err(|_| NoMemory)?;
+    assert_eq!(rt; numbers.pop(), Some(8));
+    assert_eq!(rt; numbers.pop(), None);
+    Ok(())
+}

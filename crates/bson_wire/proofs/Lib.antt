@@ -1,3 +1,10 @@
 pub mod Sizes
 pub mod Texts
 pub mod Elements
+pub mod Steps
+pub mod Bytes
+pub mod Numbers
+pub mod Names
+pub mod Values
+pub mod Documents
+pub mod Answered

@@ -1,7 +1,6 @@
 -- Which bytes spell which document: BSON 1.1, in the part that is built: strings (02) and int32 (10), flat.
-use Rattle.std.specs.Prelude.{ℕ, ℤ, ◌≡◌, ◌≢◌, ◌+◌, ◌<◌, ◌^◌, List, [], ◌∷◌, ◌++◌, length, FitsSigned}
+use Rattle.std.specs.Prelude.{ℕ, ℤ, ◌≡◌, ◌≢◌, ◌+◌, ◌<◌, ◌^◌, List, [], ◌∷◌, ◌++◌, length, All, FitsSigned}
 use Rattle.std.specs.Int.{w32, cast_unsigned}
-use Rattle.std.specs.List.{AllByRecursion}
 use Rattle.std.specs.Str.{IsUtf8}
 use Rattle.bson_values.specs.declared.pairs.Pair.{Pair}
 use Rattle.bson_values.specs.declared.value.Value.{Value, out-Value}
@@ -11,7 +10,7 @@ use Rattle.bson_wire.specs.Spelling.{int32, cstring, string}
 -- UTF-8 with no U+0000
 pub record IsName (name : List ℕ) : Type 0 where
   pub utf8 : IsUtf8 name
-  pub no_nul : AllByRecursion (λ byte. byte ≢ 0) name
+  pub no_nul : All (λ byte. byte ≢ 0) name
 
 -- UTF-8 behind a positive int32, which counts its 00 byte too
 pub record IsString (bytes text : List ℕ) : Type 0 where

@@ -1,8 +1,8 @@
--- What stands at the front of some bytes, read from the left. The laws of `Reads` tie it to the grammar.
+-- What stands at the front of some bytes, read from the left. proofs/Documents.antt ties it to the grammar.
 use Rattle.std.specs.Prelude.{ℕ, zero, suc, ◌≡◌, ◌+◌, ◌-◌, ◌==◌, ◌||◌, nat_lt, if◌then◌else◌, List, [], ◌∷◌, length, take, drop, slice_index, Option, None, Some, Result, Ok, Err}
 use Rattle.std.specs.Int.{w32, cast_signed}
 use Rattle.std.specs.List.{position}
-use Rattle.std.specs.Str.Lossy.{utf8_valid_len}
+use Rattle.std.specs.Str.{is_utf8}
 use Rattle.byteorder.specs.Endian.{little_number}
 use Rattle.bson_values.specs.declared.pairs.Pair.{Pair}
 use Rattle.bson_values.specs.declared.value.Value.{Value}
@@ -34,7 +34,7 @@ unfoldable pub length_at : ℕ → List ℕ → Option (ℕ × List ℕ)
 length_at least bytes = number_at bytes >>= λ n. if nat_lt n.0 least || nat_lt 2147483647 n.0 then None else Some n
 
 unfoldable pub text_of : List ℕ → Option (List ℕ)
-text_of bytes = if utf8_valid_len bytes == length bytes then Some bytes else None
+text_of bytes = if is_utf8 bytes then Some bytes else None
 
 unfoldable pub name_at : List ℕ → Option (List ℕ × List ℕ)
 name_at bytes = position (λ byte. byte == 0) bytes >>= λ len. text_of (take len bytes) >>= λ name. Some (name, drop (len + 1) bytes)

@@ -1,4 +1,8 @@
-ghost use Rattle.std.specs.Prelude.{◌≡◌, ◌≤◌, ◌<◌, ◌∷◌, ◌++◌, ◌==◌, ◌+◌, [], length, IfSome, IfOk, IfErr, OnOk, position};
+ghost use Rattle.std.specs.Prelude.{◌≡◌, ◌≤◌, ◌<◌, ◌∷◌, ◌++◌, ◌==◌, ◌+◌, [], length, IfSome, IfOk, IfErr, OnOk, position, ℕ, List, take};
+ghost use Rattle.std.specs.Result.{MatchResult};
+ghost use Rattle.bson_values.specs.declared.pairs.Pair.{Pair as Named};
+ghost use Rattle.bson_values.specs.declared.value.Value.{Value as Held};
+ghost use Rattle.bson_wire.specs.Grammar.{spells};
 ghost use Rattle.bson_wire.specs.Reading.{Gives, number_at, length_at, text_of, name_at, ended_at, string_at, value_at, element_at, elements_at, document_at};
 
 use crate::pieces::{head, tail};
@@ -174,7 +178,13 @@ fn document(alloc: Global, bytes: &[u8]) -> Result<(Document, &[u8]), ReadRefuse
 
 /// Reads the document at the front. Bytes may follow it.
 pub fn read(alloc: Global, bytes: &[u8]) -> Result<Front, ReadRefused>
-    ensures within { IfOk result (λ front. front.used ≤ length bytes.now) }
+    ensures found { IfOk result (λ front. (front.used ≤ length bytes.now)
+        × spells (take front.used bytes.now) front.doc) }
+    // Where a document stands, nothing else is read, and want of memory is the one refusal.
+    ensures only { (doc : List (Named Held)) (spelling rest : List ℕ)
+        → spells spelling doc → bytes.now ≡ spelling ++ rest
+        → MatchResult result (λ front. (front.doc ≡ doc) × (front.used ≡ length spelling))
+        (λ refused. refused ≡ ReadRefused.NoMemory) }
 {
     let (doc, rest) = document(alloc, bytes)?;
     Ok(Front {

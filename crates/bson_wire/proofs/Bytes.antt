@@ -1,0 +1,28 @@
+-- Lists of numbers below 256, and their parts.
+use Rattle.std.proofs.Common.{◌≡◌, ℕ, ◌+◌, ◌<◌, List, [], ◌∷◌, ◌++◌, length, get_or, take, drop, sym, ap, ◌∙◌, append_assoc, arith, inl, inr}
+use Rattle.std.proofs.lemmas.Bool.{cases_lt}
+use Rattle.std.proofs.lemmas.List.{take-append-drop, get_or_past, get_or_append_left, get_or-append-add, drop_more}
+use Rattle.bson_wire.specs.Spelling.{cstring}
+
+abbrev pub IsBytes : List ℕ → Type 0
+IsBytes bytes = (i : ℕ) → get_or bytes i 0 < 256
+
+pub IsBytes-front : (front rest bytes : List ℕ) → bytes ≡ front ++ rest → IsBytes bytes → IsBytes front
+IsBytes-front front rest bytes whole fits i =
+    elim (cases_lt i (length front)) [
+      | inl within ↦ rw (← get_or_append_left front rest 0 i within, ← whole) (fits i)
+      | inr past ↦ rw (get_or_past front i 0 past) (omega arith)
+    ]
+
+pub IsBytes-rest : (front rest bytes : List ℕ) → bytes ≡ front ++ rest → IsBytes bytes → IsBytes rest
+IsBytes-rest front rest bytes whole fits i = rw (← get_or-append-add front rest i 0, ← whole) (fits (length front + i))
+
+-- a part, a second one, and the rest
+pub regrouped : (whole first middle second rest : List ℕ) → whole ≡ first ++ middle → middle ≡ second ++ rest → whole ≡ (first ++ second) ++ rest
+regrouped whole first middle second rest one two = one ∙ ap (λ (part : List ℕ). first ++ part) two ∙ sym (append_assoc first second rest)
+
+-- a 00 byte ends what stands before it
+pub nul_at : (bytes : List ℕ) (place : ℕ) → place < length bytes → get_or bytes place 0 ≡ 0 → bytes ≡ cstring (take place bytes) ++ drop (place + 1) bytes
+nul_at bytes place within nul =
+    sym (take-append-drop place bytes) ∙ ap (λ (part : List ℕ). take place bytes ++ part) (drop_more bytes place 0 within ∙ ap (λ (byte : ℕ). byte ∷ drop (place + 1) bytes) nul)
+    ∙ sym (append_assoc (take place bytes) (0 ∷ []) (drop (place + 1) bytes))

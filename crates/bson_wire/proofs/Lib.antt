@@ -8,3 +8,4 @@ pub mod Names
 pub mod Values
 pub mod Documents
 pub mod Answered
+pub mod Written

@@ -2,3 +2,4 @@ pub mod Spelling
 pub mod Grammar
 pub mod Reading
 pub mod Appended
+pub mod Spellable

@@ -1,11 +1,13 @@
 //! Wire: the bytes of documents, as BSON 1.1 says.
 #![tactic(auto)]
 
+mod laws;
 mod pieces;
 mod reader;
 mod refused;
 mod writer;
 
+pub use laws::{no_spelling_begins_another, what_was_written_is_read_again};
 pub use reader::{Front, read};
 pub use refused::ReadRefused;
 pub use writer::write;

@@ -11,3 +11,6 @@ pub use laws::{no_spelling_begins_another, what_was_written_is_read_again};
 pub use reader::{Front, read};
 pub use refused::ReadRefused;
 pub use writer::write;
+
+#[cfg(test)]
+mod tests;

@@ -1,0 +1,51 @@
+-- One connection: what came, its script, what was written, and how it ended.
+use Rattle.std.specs.Prelude.{ℕ, ◌≡◌, ◌≢◌, ◌<◌, ◌^◌, List, [], length, take, Option}
+use Rattle.outside.specs.Told.{Grows, Tells}
+use Rattle.outside.specs.Causes.{Rose}
+use Rattle.doc_server.specs.Stream.{in_order, short, fault}
+use Rattle.doc_server.specs.Script.{Executed, messages, bytes_of}
+use Rattle.doc_server.specs.declared.why.Why.{Why}
+use Rattle.doc_server.specs.declared.why.Why.TheVariants.{Closed, Truncated, BadFrame, ReadFault, WriteFault, Long, NoMemory}
+
+-- all of it was written, or a front of it where a write failed
+abbrev pub Wrote : Why → Option (List ℕ) → Option (List ℕ) → List ℕ → Type 0
+Wrote WriteFault old new all = (sent : ℕ) × Grows old new (take sent all)
+Wrote why old new all = Grows old new all
+
+-- how it ended, as all the bytes that came show, and those of them that stand behind the executed messages
+abbrev pub Ends : Why → List ℕ → List ℕ → Type 0
+Ends Closed all rest = (rest ≡ []) × (length all < 2 ^ 40)
+Ends (Truncated size) all rest = (size ≡ length rest) × (rest ≢ []) × short rest × (length all < 2 ^ 40)
+Ends BadFrame all rest = fault rest
+Ends ReadFault all rest = short rest
+Ends WriteFault all rest = Unit {0}
+Ends Long all rest = short rest × (length all ≡ 2 ^ 40)
+Ends NoMemory all rest = Unit {0}
+
+-- the input came to its end where this end says so
+abbrev pub AtEnd : Why → Option (List ℕ) → Type 0
+AtEnd Closed left = Tells left []
+AtEnd (Truncated size) left = Tells left []
+AtEnd why left = Unit {0}
+
+-- a fault is told exactly where a call of its kind failed, and no call of the other kind did
+abbrev pub Faults : Why → ℕ → ℕ → ℕ → ℕ → Type 0
+Faults ReadFault reads reads' writes writes' = Rose reads reads' × (writes' ≡ writes)
+Faults WriteFault reads reads' writes writes' = (reads' ≡ reads) × Rose writes writes'
+Faults why reads reads' writes writes' = (reads' ≡ reads) × (writes' ≡ writes)
+
+-- what a link tells of its bytes at one moment
+pub record Scene : Type 0 where
+  pub took : Option (List ℕ)
+  pub wrote : Option (List ℕ)
+
+-- a connection, from where it began to where it stands
+pub record Talk (old new : Scene) (why : Why) (commands : ℕ) (all : List ℕ) (script : List Executed) (rest : List ℕ) : Type 0 where
+  pub taken : Grows old.took new.took all
+  pub order : in_order all (messages script) rest
+  pub written : Wrote why old.wrote new.wrote (bytes_of script)
+  pub count : commands ≡ length script
+
+-- the same, of some script that leaves a rest which shows the end
+abbrev pub Talks : Scene → Scene → Why → ℕ → Type 0
+Talks old new why commands = (all : List ℕ) × (script : List Executed) × (rest : List ℕ) × Talk old new why commands all script rest × Ends why all rest

@@ -1,0 +1,41 @@
+ghost use Rattle.std.specs.Prelude.{◌≡◌, ◌+◌, ◌≤◌, ◌^◌, ◌%◌, length, IfOk};
+ghost use Rattle.bson_wire.specs.Spelling.{IsFlat, spell};
+ghost use Rattle.doc_server.specs.Reply.{header, reply};
+
+use bson_values::{Bytes, Document, NoMemory};
+use bson_wire::write;
+use byteorder::{ByteOrder, LittleEndian};
+use std::alloc::Global;
+
+const OP_MSG: u32 = 2013;
+
+/// The bytes of a reply before its document, which has `size` bytes.
+fn head(number: u32, request: i32, size: usize) -> [u8; 21]
+    requires { size ≤ 47999000 }
+    ensures { result ≡ header number request size }
+{
+    let mut bytes = [0; 21];
+    LittleEndian::write_u32(&mut bytes, size as u32 + 21);
+    LittleEndian::write_u32(&mut bytes[4..], number);
+    LittleEndian::write_i32(&mut bytes[8..], request);
+    LittleEndian::write_u32(&mut bytes[12..], OP_MSG);
+    bytes
+}
+
+/// A reply to OP_MSG: no flags, one body.
+pub(crate) fn put_reply(
+    alloc: Global,
+    number: u32,
+    request: i32,
+    doc: &Document,
+) -> Result<Bytes, NoMemory>
+    requires flat { IsFlat doc.now }
+    requires small { length (spell doc.now) ≤ 47999000 }
+    ensures { IfOk result (λ bytes. bytes ≡ reply number request doc.now) }
+{
+    let mut bytes = Bytes::of(alloc, &[0; 21])?;
+    write(doc, &mut bytes)?;
+    let size = bytes.len() - 21;
+    bytes.overwrite(0, &head(number, request, size));
+    Ok(bytes)
+}

@@ -1,0 +1,193 @@
+ghost use Rattle.std.specs.Prelude.{◌≡◌, ◌≤◌, ◌<◌, ◌==◌, ◌+◌, ◌^◌, ℕ, if◌then◌else◌, length, take, IfErr, OnOk, OnErr};
+ghost use Rattle.outside.specs.Told.{Grows};
+ghost use Rattle.outside.specs.Causes.{HasCause};
+ghost use Rattle.doc_server.specs.Answers.{answer};
+ghost use Rattle.doc_server.specs.Talk.{Talks, AtEnd, Faults};
+ghost use Rattle.doc_server.specs.Steps.{Fetches, Answers, end_of, fault_of};
+
+use crate::answers::answer;
+use crate::message::{Message, Taken, take};
+use crate::pieces::{drop_front, head, tail};
+use crate::why::Why;
+use outside::{Failed, Link};
+use std::alloc::Global;
+
+/// A connection that was served to its end.
+#[derive(Debug, Drop)]
+pub struct Ended<L> {
+    /// The number of the worker that served it.
+    pub seat: u64,
+    /// Its number with that worker.
+    pub number: u64,
+    pub link: L,
+    pub why: Why,
+    /// How many messages were executed.
+    pub commands: u64,
+    /// How many of them were not to be answered and lost something for want of memory.
+    pub lost: u64,
+}
+
+/// The most bytes that one read asks for.
+const PIECE: usize = 65_536;
+
+/// The most bytes that are read of one connection.
+const LIMIT: u64 = 1 << 40;
+
+/// How a conversation ended, and how many messages were executed.
+#[derive(Drop)]
+struct Said {
+    why: Why,
+    commands: u64,
+}
+
+impl Said {
+    fn of(why: Why, commands: u64) -> Said
+        ensures why { result.why ≡ why }
+        ensures commands { result.commands ≡ commands }
+    {
+        Said { why, commands }
+    }
+}
+
+fn write_all<L: Link>(link: &mut L, bytes: &[u8]) -> Result<(), Failed>
+    ensures taken { L.taken link.new ≡ L.taken link.old }
+    ensures left { L.left link.new ≡ L.left link.old }
+    ensures read_faults { L.read_faults link.new ≡ L.read_faults link.old }
+    ensures ok { OnOk result (Grows (L.written link.old) (L.written link.new) bytes.now) }
+    ensures err { OnErr result ((sent : ℕ) × Grows (L.written link.old) (L.written link.new) (take sent bytes.now)) }
+    ensures cause { HasCause (L.write_faults link.old) (L.write_faults link.new) result }
+{
+    let mut sent = 0;
+    while sent < bytes.len() {
+        let count = link.write(tail(bytes, sent))?;
+        sent += count;
+    }
+    Ok(())
+}
+
+/// The end of an input of whose last message so many bytes came.
+fn at_end(len: usize) -> Why
+    ensures { result ≡ (if len == 0 then Why.Closed else Why.Truncated len) }
+{
+    if len == 0 {
+        Why::Closed
+    } else {
+        Why::Truncated(len as u64)
+    }
+}
+
+/// Reads one piece more to the end of the buffer, and answers how many bytes came. `count` came before.
+fn fetch<L: Link>(
+    link: &mut L,
+    buffer: &mut Vec<u8>,
+    piece: &mut [u8],
+    count: u64,
+) -> Result<u64, Why>
+    requires room { 0 < length piece.old }
+    requires limit { count ≤ 2 ^ 40 }
+    ensures fetches { Fetches result (L.taken link.old) (L.taken link.new) count buffer.old.items buffer.new.items }
+    ensures end { IfErr result (λ why. AtEnd why (L.left link.new)) }
+    ensures written { L.written link.new ≡ L.written link.old }
+    ensures faults { Faults (end_of result) (L.read_faults link.old) (L.read_faults link.new) (L.write_faults link.old) (L.write_faults link.new) }
+{
+    if count >= LIMIT {
+        return Err(Why::Long);
+    }
+    let room = (LIMIT - count).min(piece.len() as u64) as usize;
+    let Ok(came) = link.read(&mut piece[..room]) else {
+        return Err(Why::ReadFault);
+    };
+    if came == 0 {
+        return Err(at_end(buffer.len()));
+    }
+    match buffer.extend_from_slice(head(piece, came)) {
+        Ok(()) => Ok(came as u64),
+        Err(_) => Err(Why::NoMemory),
+    }
+}
+
+/// What became of the answer to a message.
+#[derive(Drop)]
+enum Replied {
+    Sent,
+    /// A front of it may have been written.
+    WriteFault,
+    /// It was not made, and nothing was written.
+    NoMemory,
+}
+
+/// Makes the answer to a message that comes after so many replies, and writes it.
+fn reply_to<L: Link>(alloc: Global, link: &mut L, replies: u64, message: &Message) -> Replied
+    ensures answers { Answers result (L.written link.old) (L.written link.new) (answer replies message.now) }
+    ensures taken { L.taken link.new ≡ L.taken link.old }
+    ensures faults { Faults (fault_of result) (L.read_faults link.old) (L.read_faults link.new) (L.write_faults link.old) (L.write_faults link.new) }
+{
+    let _moment = link.now();
+    let Ok(bytes) = answer(alloc, replies, message) else {
+        return Replied::NoMemory;
+    };
+    match write_all(link, bytes.as_slice()) {
+        Ok(()) => Replied::Sent,
+        Err(Failed) => Replied::WriteFault,
+    }
+}
+
+/// Answers each message as soon as it is whole, until the link or the memory ends it.
+fn converse<L: Link>(alloc: Global, link: &mut L) -> Said
+    ensures talks { Talks (record { took = L.taken link.old; wrote = L.written link.old })
+        (record { took = L.taken link.new; wrote = L.written link.new }) result.why result.commands }
+    ensures end { AtEnd result.why (L.left link.new) }
+    ensures faults { Faults result.why (L.read_faults link.old) (L.read_faults link.new) (L.write_faults link.old) (L.write_faults link.new) }
+{
+    let mut buffer = Vec::new(alloc);
+    let mut used = 0;
+    let mut count = 0;
+    let mut commands = 0;
+    let mut piece = [0u8; PIECE];
+    loop {
+        match take(alloc, tail(&buffer, used)) {
+            Taken::Whole { message, used: len } => {
+                let replied = reply_to(alloc, link, commands, &message);
+                drop(message);
+                match replied {
+                    Replied::Sent => {}
+                    Replied::WriteFault => return Said::of(Why::WriteFault, commands + 1),
+                    Replied::NoMemory => return Said::of(Why::NoMemory, commands),
+                }
+                used += len;
+                commands += 1;
+            }
+            Taken::Short => {
+                drop_front(&mut buffer, used);
+                used = 0;
+                match fetch(link, &mut buffer, &mut piece, count) {
+                    Ok(came) => count += came,
+                    Err(why) => return Said::of(why, commands),
+                }
+            }
+            Taken::Bad => return Said::of(Why::BadFrame, commands),
+            Taken::NoMemory => return Said::of(Why::NoMemory, commands),
+        }
+    }
+}
+
+/// Serves one connection to its end, as the `number`th of the worker `seat`.
+pub fn serve_link<L: Link>(alloc: Global, mut link: L, seat: u64, number: u64) -> Ended<L>
+    ensures names { (result.seat ≡ seat) × (result.number ≡ number) }
+    ensures talks { Talks (record { took = L.taken link; wrote = L.written link })
+        (record { took = L.taken result.link; wrote = L.written result.link }) result.why result.commands }
+    ensures end { AtEnd result.why (L.left result.link) }
+    ensures faults { Faults result.why (L.read_faults link) (L.read_faults result.link) (L.write_faults link) (L.write_faults result.link) }
+    ensures lost { result.lost ≡ 0 }
+{
+    let said = converse(alloc, &mut link);
+    link.shut();
+    Ended {
+        seat,
+        number,
+        link,
+        why: said.why,
+        commands: said.commands,
+        lost: 0,
+    }
+}

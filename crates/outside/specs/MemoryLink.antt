@@ -14,6 +14,6 @@ pub record MemoryLinkState : Type 0 where
   pub write_faults : ℕ
 
 -- nothing was asked of the link yet
-abbrev pub IsUnasked : MemoryLinkState → Type 0
-IsUnasked link =
+abbrev pub IsFreshMemoryLink : MemoryLinkState → Type 0
+IsFreshMemoryLink link =
     IsFresh (Some link.source.taken) (Some link.written) (moments_of link.source) link.read_faults link.write_faults

@@ -9,5 +9,5 @@ pub record SureLinkState : Type 0 where
   pub written : Option (List ℕ)
 
 -- nothing was asked of the link yet
-abbrev pub IsUnasked : SureLinkState → Type 0
-IsUnasked link = IsFresh (Some link.source.taken) link.written (moments_of link.source) 0 0
+abbrev pub IsFreshSureLink : SureLinkState → Type 0
+IsFreshSureLink link = IsFresh (Some link.source.taken) link.written (moments_of link.source) 0 0

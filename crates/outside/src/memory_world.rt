@@ -1,5 +1,5 @@
 ghost use Rattle.std.specs.Prelude.{◌≡◌, Some, None, is_none, option_map, IsSome};
-ghost use Rattle.outside.specs.MemoryLink.{IsUnasked};
+ghost use Rattle.outside.specs.MemoryLink.{IsFreshMemoryLink};
 
 use crate::memory_link::MemoryLink;
 use crate::world::World;
@@ -14,18 +14,18 @@ pub struct MemoryWorld {
 impl Model for MemoryWorld {
     ghost use Rattle.std.specs.Prelude.{Option};
     ghost use Rattle.std.specs.Option.{ForSome};
-    ghost use Rattle.outside.specs.MemoryLink.{MemoryLinkState, IsUnasked};
+    ghost use Rattle.outside.specs.MemoryLink.{MemoryLinkState, IsFreshMemoryLink};
 
     ghost Value = { Option MemoryLinkState };
 
     ghost view = { λ it. it.console };
 
-    ghost invariant = { λ it. ForSome it.console IsUnasked };
+    ghost invariant = { λ it. ForSome it.console IsFreshMemoryLink };
 }
 
 impl MemoryWorld {
     pub fn new(console: MemoryLink) -> MemoryWorld
-        requires { IsUnasked console }
+        requires { IsFreshMemoryLink console }
         ensures { result ≡ Some console }
     {
         MemoryWorld {
@@ -45,7 +45,7 @@ impl World for MemoryWorld {
         requires { IsSome self.old }
         ensures given { self.old ≡ Some result }
         ensures once { self.new ≡ None }
-        ensures unasked { IsUnasked result }
+        ensures fresh { IsFreshMemoryLink result }
     {
         self.console.take().unwrap()
     }

@@ -1,5 +1,5 @@
 ghost use Rattle.std.specs.Prelude.{◌≡◌, Some, None, is_none, option_map, IsSome};
-ghost use Rattle.outside.specs.SureLink.{IsUnasked};
+ghost use Rattle.outside.specs.SureLink.{IsFreshSureLink};
 
 use crate::sure_link::SureLink;
 use crate::world::World;
@@ -14,18 +14,18 @@ pub struct SureWorld {
 impl Model for SureWorld {
     ghost use Rattle.std.specs.Prelude.{Option};
     ghost use Rattle.std.specs.Option.{ForSome};
-    ghost use Rattle.outside.specs.SureLink.{SureLinkState, IsUnasked};
+    ghost use Rattle.outside.specs.SureLink.{SureLinkState, IsFreshSureLink};
 
     ghost Value = { Option SureLinkState };
 
     ghost view = { λ it. it.console };
 
-    ghost invariant = { λ it. ForSome it.console IsUnasked };
+    ghost invariant = { λ it. ForSome it.console IsFreshSureLink };
 }
 
 impl SureWorld {
     pub fn new(console: SureLink) -> SureWorld
-        requires { IsUnasked console }
+        requires { IsFreshSureLink console }
         ensures { result ≡ Some console }
     {
         SureWorld {
@@ -45,7 +45,7 @@ impl World for SureWorld {
         requires { IsSome self.old }
         ensures given { self.old ≡ Some result }
         ensures once { self.new ≡ None }
-        ensures unasked { IsUnasked result }
+        ensures fresh { IsFreshSureLink result }
     {
         self.console.take().unwrap()
     }

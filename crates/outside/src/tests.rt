@@ -1,4 +1,6 @@
-ghost use Rattle.std.specs.Prelude.{◌≡◌, false, true};
+ghost use Rattle.std.specs.Prelude.{◌≡◌, false, true, IfOk};
+ghost use Rattle.outside.specs.MemoryLink.{IsFreshMemoryLink};
+ghost use Rattle.outside.specs.SureLink.{IsFreshSureLink};
 
 use crate::{Failed, Gate, Link, MemoryLink, MemoryWorld, SureLink, SureWorld, World};
 use bson_values::{Bytes, List, NoMemory};
@@ -36,7 +38,9 @@ fn numbers(alloc: Global, numbers: &[u64]) -> Result<List<u64>, NoMemory> {
     Ok(List::from_vec(Vec::from_slice(alloc, numbers)?))
 }
 
-fn memory_link(alloc: Global) -> Result<MemoryLink, NoMemory> {
+fn memory_link(alloc: Global) -> Result<MemoryLink, NoMemory>
+    ensures { IfOk result IsFreshMemoryLink }
+{
     let input = Bytes::of(alloc, INPUT)?;
     let cuts = numbers(alloc, &[1, 3, 9, 0, 65536])?;
     let bad_reads = numbers(alloc, &[2])?;
@@ -45,7 +49,9 @@ fn memory_link(alloc: Global) -> Result<MemoryLink, NoMemory> {
     Ok(MemoryLink::new(alloc, input, cuts, bad_reads, bad_writes, moments))
 }
 
-fn sure_link(alloc: Global) -> Result<SureLink, NoMemory> {
+fn sure_link(alloc: Global) -> Result<SureLink, NoMemory>
+    ensures { IfOk result IsFreshSureLink }
+{
     let input = Bytes::of(alloc, INPUT)?;
     let cuts = numbers(alloc, &[1, 3, 9, 0, 65536])?;
     let moments = numbers(alloc, &[50, 80])?;

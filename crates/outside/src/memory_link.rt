@@ -10,6 +10,8 @@ use std::alloc::Global;
 use std::marker::Model;
 
 /// A link in memory, whose reads are cut and whose calls fail as it was told.
+///
+/// A number of calls stands still at the end of a u64. The moments are told until theirs does.
 #[derive(Debug, Drop)]
 pub struct MemoryLink {
     source: Source,
@@ -70,7 +72,7 @@ impl MemoryLink {
         }
     }
 
-    /// The bytes that its writes took.
+    /// The bytes that its writes took, which are always told.
     pub fn written(&self) -> Option<&[u8]>
         ensures { option_copied result ≡ Some self.now.written }
     {
@@ -99,7 +101,8 @@ impl Gate for MemoryLink {
 impl Link for MemoryLink {
     fn read(&mut self, into: &mut [u8]) -> Result<usize, Failed>
         ensures fails { IsErr result ↔ Contains self.old.bad_reads self.old.source.reads }
-        ensures reads { IfOk result (λ count. Reads self.old.source self.new.source into.old into.new count) }
+        ensures reads { IfOk result (λ count.
+            Reads self.old.source self.new.source into.old into.new count) }
         ensures ok { OnOk result (self.new ≡ record self.old { source = self.new.source }) }
         ensures err { OnErr result (self.new ≡ record self.old {
           source = record self.old.source { reads = raised self.old.source.reads };
@@ -116,7 +119,7 @@ impl Link for MemoryLink {
     }
 
     fn write(&mut self, from: &[u8]) -> Result<usize, Failed>
-        // Want of memory fails too.
+        // It fails as well where no memory is found to keep the piece.
         ensures fails { Contains self.old.bad_writes self.old.writes → IsErr result }
         ensures whole { IfOk result (λ count. count ≡ length from.now) }
         ensures ok { OnOk result (self.new ≡ record self.old {

@@ -1,4 +1,4 @@
-ghost use Rattle.std.specs.Prelude.{◌≡◌, ◌++◌, length, take, drop};
+ghost use Rattle.std.specs.Prelude.{◌≡◌};
 ghost use Rattle.outside.specs.Counts.{raised};
 ghost use Rattle.outside.specs.Source.{source_of, read_len, Reads, Ticks};
 
@@ -13,7 +13,7 @@ pub struct Source {
     cuts: List<u64>,
     reads: u64,
     moments: List<u64>,
-    asked: u64,
+    ticks: u64,
 }
 
 impl Model for Source {
@@ -28,7 +28,7 @@ impl Model for Source {
       cuts = it.cuts;
       reads = it.reads;
       moments = it.moments;
-      asked = it.asked;
+      ticks = it.ticks;
     } };
 
     ghost invariant = { λ it. it.place ≤ length it.input };
@@ -44,7 +44,7 @@ impl Source {
             cuts,
             reads: 0,
             moments,
-            asked: 0,
+            ticks: 0,
         }
     }
 
@@ -89,11 +89,11 @@ impl Source {
         ensures { Ticks self.old self.new result }
     {
         let last = self.moments.len().saturating_sub(1);
-        let moment = match self.moments.get(last.min(self.asked as usize)) {
+        let moment = match self.moments.get(last.min(self.ticks as usize)) {
             Some(moment) => *moment,
             None => 0,
         };
-        self.asked = self.asked.saturating_add(1);
+        self.ticks = self.ticks.saturating_add(1);
         moment
     }
 }

@@ -1,4 +1,4 @@
-ghost use Rattle.std.specs.Prelude.{◌≡◌, ◌++◌, [], length, Some, Ok, IsOkAnd};
+ghost use Rattle.std.specs.Prelude.{◌≡◌, [], length, Some, IsOkAnd};
 ghost use Rattle.std.specs.Option.{option_copied};
 ghost use Rattle.outside.specs.Told.{Grows};
 ghost use Rattle.outside.specs.Source.{source_of, moments_of, Reads, Ticks};
@@ -9,7 +9,9 @@ use bson_values::{Bytes, List};
 use std::alloc::Global;
 use std::marker::Model;
 
-/// A link in memory that never fails.
+/// A link in memory, whose reads are cut as it was told and whose calls never fail.
+///
+/// A number of calls stands still at the end of a u64. The moments are told until theirs does.
 #[derive(Debug, Drop)]
 pub struct SureLink {
     source: Source,
@@ -67,7 +69,8 @@ impl Gate for SureLink {
 
 impl Link for SureLink {
     fn read(&mut self, into: &mut [u8]) -> Result<usize, Failed>
-        ensures reads { IsOkAnd result (λ count. Reads self.old.source self.new.source into.old into.new count) }
+        ensures reads { IsOkAnd result (λ count.
+            Reads self.old.source self.new.source into.old into.new count) }
         ensures rest { self.new ≡ record self.old { source = self.new.source } }
     {
         Ok(self.source.read(into))

@@ -4,7 +4,6 @@ use Rattle.std.proofs.lemmas.List.{drop-drop}
 use Rattle.outside.proofs.Halves.{take-further}
 use Rattle.outside.proofs.source.Source.read.Goals as goal
 
--- src/source.rt:63:5
 pub returns : goal.returns
 returns c = record {
   len = c.read_len-count.ensures;

@@ -1,2 +1,6 @@
 pub mod Told
 pub mod Causes
+pub mod Counts
+pub mod Source
+pub mod MemoryLink
+pub mod SureLink

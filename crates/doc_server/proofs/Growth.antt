@@ -1,9 +1,9 @@
 -- Pieces that come one after another.
-use Rattle.std.proofs.Common.{◌≡◌, ℕ, ◌+◌, ◌≤◌, List, [], ◌∷◌, ◌++◌, length, take, drop, refl, ap, arith, sym, append_assoc, length-take, length-drop}
+use Rattle.std.proofs.Common.{◌≡◌, ℕ, ◌+◌, ◌≤◌, List, [], ◌∷◌, ◌++◌, length, take, drop, refl, ap, arith, sym, ◌∙◌, append_assoc, length-take, length-drop}
 use Rattle.std.proofs.lemmas.List.{take-append-drop}
 use Rattle.std.proofs.Math.Seq.{take-append-add}
 use Rattle.std.specs.Prelude.{Option, None, Some}
-use Rattle.outside.specs.Told.{Grows}
+use Rattle.outside.specs.Told.{Grows, Shrinks}
 
 pub append-nil : {X : Type 0} (xs : List X) → xs ++ [] ≡ xs
 append-nil [] = refl
@@ -22,6 +22,18 @@ grows-on (Some old) None None xs ys first second = tt
 grows-on (Some old) None (Some new) xs ys first second = cc
 grows-on (Some old) (Some mid) None xs ys first second = tt
 grows-on (Some old) (Some mid) (Some new) xs ys first second = rw (second, first) (append_assoc old xs ys)
+
+pub shrinks-none : (told : Option (List ℕ)) → Shrinks told told []
+shrinks-none None = refl
+shrinks-none (Some all) = refl
+
+pub shrinks-on : (old mid new : Option (List ℕ)) (xs ys : List ℕ) → Shrinks old mid xs → Shrinks mid new ys → Shrinks old new (xs ++ ys)
+shrinks-on None None new xs ys first second = second
+shrinks-on None (Some mid) new xs ys first second = cc
+shrinks-on (Some old) None None xs ys first second = tt
+shrinks-on (Some old) None (Some new) xs ys first second = cc
+shrinks-on (Some old) (Some mid) None xs ys first second = tt
+shrinks-on (Some old) (Some mid) (Some new) xs ys first second = first ∙ ap (λ rest. xs ++ rest) second ∙ sym (append_assoc xs ys new)
 
 pub take-further : (xs : List ℕ) (at n : ℕ) → at ≤ length xs → take (at + n) xs ≡ take at xs ++ take n (drop at xs)
 take-further xs at n within =

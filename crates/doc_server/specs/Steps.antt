@@ -1,7 +1,8 @@
 -- What one step of a conversation does. Links between contracts; nobody has to read them for the main clause.
 use Rattle.std.specs.Prelude.{ℕ, ◌≡◌, ◌≢◌, ◌+◌, ◌≤◌, ◌<◌, ◌^◌, List, [], ◌++◌, length, take, Option, Result, Ok, Err}
-use Rattle.outside.specs.Told.{Grows}
+use Rattle.outside.specs.Told.{Grows, Shrinks}
 use Rattle.doc_server.specs.Stream.{message, short, fault}
+use Rattle.doc_server.specs.Talk.{Scene}
 use Rattle.doc_server.specs.declared.message.Message.{Message}
 use Rattle.doc_server.specs.declared.message.Taken.{Taken}
 use Rattle.doc_server.specs.declared.message.Taken.TheVariants as taken
@@ -39,9 +40,15 @@ Stops why.NoMemory count buffer piece = Unit {0}
 Stops _ count buffer piece = ⊥
 
 -- a piece came and was kept, or the input ends
-abbrev pub Fetches : Result ℕ Why → Option (List ℕ) → Option (List ℕ) → ℕ → List ℕ → List ℕ → Type 0
-Fetches (Ok came) old new count buffer buffer' = (piece : List ℕ) × Grows old new piece × (length piece ≡ came) × (0 < came) × (count + came ≤ 2 ^ 40) × (buffer' ≡ buffer ++ piece)
-Fetches (Err end) old new count buffer buffer' = (piece : List ℕ) × Grows old new piece × Stops end count buffer piece
+abbrev pub Fetches : Result ℕ Why → List ℕ → ℕ → List ℕ → List ℕ → Type 0
+Fetches (Ok came) piece count buffer buffer' = (length piece ≡ came) × (0 < came) × (count + came ≤ 2 ^ 40) × (buffer' ≡ buffer ++ piece)
+Fetches (Err end) piece count buffer buffer' = Stops end count buffer piece
+
+-- a link gave a piece, and took nothing
+pub record Moves (old new : Scene) (piece : List ℕ) : Type 0 where
+  pub taken : Grows old.took new.took piece
+  pub came : Shrinks old.left new.left piece
+  pub written : new.wrote ≡ old.wrote
 
 -- the end that a step tells, as far as faults go
 abbrev pub end_of : Result ℕ Why → Why

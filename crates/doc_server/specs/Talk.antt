@@ -1,6 +1,6 @@
 -- One connection: what came, its script, what was written, and how it ended.
 use Rattle.std.specs.Prelude.{ℕ, ◌≡◌, ◌≢◌, ◌<◌, ◌^◌, List, [], length, take, Option}
-use Rattle.outside.specs.Told.{Grows, Tells}
+use Rattle.outside.specs.Told.{Grows, Shrinks, Tells}
 use Rattle.outside.specs.Causes.{Rose}
 use Rattle.doc_server.specs.Stream.{in_order, short, fault}
 use Rattle.doc_server.specs.Script.{Executed, messages, bytes_of}
@@ -37,11 +37,13 @@ Faults why reads reads' writes writes' = (reads' ≡ reads) × (writes' ≡ writ
 -- what a link tells of its bytes at one moment
 pub record Scene : Type 0 where
   pub took : Option (List ℕ)
+  pub left : Option (List ℕ)
   pub wrote : Option (List ℕ)
 
 -- a connection, from where it began to where it stands
 pub record Talk (old new : Scene) (why : Why) (commands : ℕ) (all : List ℕ) (script : List Executed) (rest : List ℕ) : Type 0 where
   pub taken : Grows old.took new.took all
+  pub came : Shrinks old.left new.left all
   pub order : in_order all (messages script) rest
   pub written : Wrote why old.wrote new.wrote (bytes_of script)
   pub count : commands ≡ length script

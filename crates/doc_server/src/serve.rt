@@ -1,9 +1,9 @@
-ghost use Rattle.std.specs.Prelude.{◌≡◌, ◌≤◌, ◌<◌, ◌==◌, ◌+◌, ◌^◌, ℕ, if◌then◌else◌, length, take, IfErr, OnOk, OnErr};
+ghost use Rattle.std.specs.Prelude.{◌≡◌, ◌≤◌, ◌<◌, ◌==◌, ◌+◌, ◌^◌, ℕ, if◌then◌else◌, List, length, take, IfErr, OnOk, OnErr};
 ghost use Rattle.outside.specs.Told.{Grows};
 ghost use Rattle.outside.specs.Causes.{HasCause};
 ghost use Rattle.doc_server.specs.Answers.{answer};
 ghost use Rattle.doc_server.specs.Talk.{Talks, AtEnd, Faults};
-ghost use Rattle.doc_server.specs.Steps.{Fetches, Answers, end_of, fault_of};
+ghost use Rattle.doc_server.specs.Steps.{Fetches, Moves, Answers, end_of, fault_of};
 
 use crate::answers::answer;
 use crate::message::{Message, Taken, take};
@@ -85,9 +85,11 @@ fn fetch<L: Link>(
 ) -> Result<u64, Why>
     requires room { 0 < length piece.old }
     requires limit { count ≤ 2 ^ 40 }
-    ensures fetches { Fetches result (L.taken link.old) (L.taken link.new) count buffer.old.items buffer.new.items }
+    ensures fetches { (piece : List ℕ) × Moves
+        (record { took = L.taken link.old; left = L.left link.old; wrote = L.written link.old })
+        (record { took = L.taken link.new; left = L.left link.new; wrote = L.written link.new }) piece
+        × Fetches result piece count buffer.old.items buffer.new.items }
     ensures end { IfErr result (λ why. AtEnd why (L.left link.new)) }
-    ensures written { L.written link.new ≡ L.written link.old }
     ensures faults { Faults (end_of result) (L.read_faults link.old) (L.read_faults link.new) (L.write_faults link.old) (L.write_faults link.new) }
 {
     if count >= LIMIT {
@@ -120,6 +122,7 @@ enum Replied {
 fn reply_to<L: Link>(alloc: Global, link: &mut L, replies: u64, message: &Message) -> Replied
     ensures answers { Answers result (L.written link.old) (L.written link.new) (answer replies message.now) }
     ensures taken { L.taken link.new ≡ L.taken link.old }
+    ensures left { L.left link.new ≡ L.left link.old }
     ensures faults { Faults (fault_of result) (L.read_faults link.old) (L.read_faults link.new) (L.write_faults link.old) (L.write_faults link.new) }
 {
     let _moment = link.now();
@@ -134,8 +137,8 @@ fn reply_to<L: Link>(alloc: Global, link: &mut L, replies: u64, message: &Messag
 
 /// Answers each message as soon as it is whole, until the link or the memory ends it.
 fn converse<L: Link>(alloc: Global, link: &mut L) -> Said
-    ensures talks { Talks (record { took = L.taken link.old; wrote = L.written link.old })
-        (record { took = L.taken link.new; wrote = L.written link.new }) result.why result.commands }
+    ensures talks { Talks (record { took = L.taken link.old; left = L.left link.old; wrote = L.written link.old })
+        (record { took = L.taken link.new; left = L.left link.new; wrote = L.written link.new }) result.why result.commands }
     ensures end { AtEnd result.why (L.left link.new) }
     ensures faults { Faults result.why (L.read_faults link.old) (L.read_faults link.new) (L.write_faults link.old) (L.write_faults link.new) }
 {
@@ -174,8 +177,8 @@ fn converse<L: Link>(alloc: Global, link: &mut L) -> Said
 /// Serves one connection to its end, as the `number`th of the worker `seat`.
 pub fn serve_link<L: Link>(alloc: Global, mut link: L, seat: u64, number: u64) -> Ended<L>
     ensures names { (result.seat ≡ seat) × (result.number ≡ number) }
-    ensures talks { Talks (record { took = L.taken link; wrote = L.written link })
-        (record { took = L.taken result.link; wrote = L.written result.link }) result.why result.commands }
+    ensures talks { Talks (record { took = L.taken link; left = L.left link; wrote = L.written link })
+        (record { took = L.taken result.link; left = L.left result.link; wrote = L.written result.link }) result.why result.commands }
     ensures end { AtEnd result.why (L.left result.link) }
     ensures faults { Faults result.why (L.read_faults link) (L.read_faults result.link) (L.write_faults link) (L.write_faults result.link) }
     ensures lost { result.lost ≡ 0 }

@@ -9,7 +9,7 @@ invariant-loop-message g l = record {
   room : l.commands + length l.buffer.items ≤ l.count + l.used;
   read_faults : g.L.Gate.read_faults l.link ≡ g.L.Gate.read_faults l.initial.link;
   write_faults : g.L.Gate.write_faults l.link ≡ g.L.Gate.write_faults l.initial.link;
-  going : Going (record { took = g.L.Gate.taken l.initial.link; wrote = g.L.Gate.written l.initial.link }) (record { took = g.L.Gate.taken l.link; wrote = g.L.Gate.written l.link }) l.commands l.count (drop l.used l.buffer.items);
+  going : Going (record { took = g.L.Gate.taken l.initial.link; left = g.L.Gate.left l.initial.link; wrote = g.L.Gate.written l.initial.link }) (record { took = g.L.Gate.taken l.link; left = g.L.Gate.left l.link; wrote = g.L.Gate.written l.link }) l.commands l.count (drop l.used l.buffer.items);
 }
 
 abbrev pub decreases-loop-message : goal.decreases-loop-message

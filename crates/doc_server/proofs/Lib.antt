@@ -3,3 +3,5 @@ pub mod Scripts
 pub mod Conversation
 pub mod Messages
 pub mod Fronts
+pub mod Framing
+pub mod Whole

@@ -4,3 +4,4 @@ pub mod Stream
 pub mod Script
 pub mod Talk
 pub mod Steps
+pub mod Program

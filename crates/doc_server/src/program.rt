@@ -1,4 +1,6 @@
-ghost use Rattle.std.specs.Prelude.{◌≡◌, false};
+ghost use Rattle.std.specs.Prelude.{◌≡◌, false, map, is_some, string_bytes, IfSome, IfNone};
+ghost use Rattle.doc_server.specs.Talk.{Faults};
+ghost use Rattle.doc_server.specs.Program.{is_pipe, status_of, Spoken, AnswersAll};
 
 use crate::serve::{Ended, serve_link};
 use crate::why::Why;
@@ -15,7 +17,9 @@ pub struct Finished<C> {
     pub console: Option<Ended<C>>,
 }
 
-fn status(why: &Why) -> u8 {
+fn status(why: &Why) -> u8
+    ensures { result ≡ status_of why.now }
+{
     match why {
         Why::Closed => 0,
         Why::WriteFault => 4,
@@ -28,7 +32,9 @@ fn status(why: &Why) -> u8 {
 }
 
 /// Whether the words are the one word `pipe`.
-fn is_pipe(words: &[String]) -> bool {
+fn is_pipe(words: &[String]) -> bool
+    ensures { result ≡ is_pipe (map string_bytes words.now) }
+{
     match words {
         [word] => word.as_str() == "pipe",
         _ => false,
@@ -38,6 +44,35 @@ fn is_pipe(words: &[String]) -> bool {
 /// All that the program does. The one command is `pipe`: it serves the console as a connection.
 pub fn ferret<W: World>(alloc: Global, words: &[String], world: &mut W) -> Finished<W::Console>
     requires { W.is_given world.old ≡ false }
+
+    // The words decide whether the console is served.
+    ensures words { is_some result.console ≡ is_pipe (map string_bytes words.now) }
+    ensures given { W.is_given world.new ≡ is_some result.console }
+    ensures bad_words { IfNone result.console (result.status ≡ 1) }
+
+    // The status tells how its connection ended.
+    ensures status { IfSome result.console (λ e. result.status ≡ status_of e.why) }
+    ensures names { IfSome result.console (λ e. (e.seat ≡ 0) × (e.number ≡ 0) × (e.lost ≡ 0)) }
+    ensures faults { IfSome result.console (λ e. Faults e.why
+        0 (W.Console.read_faults e.link) 0 (W.Console.write_faults e.link)) }
+
+    // What came are messages and a rest, and what was written are the answers.
+    ensures spoken { IfSome result.console (λ e. Spoken (record {
+      taken = W.Console.taken e.link;
+      left = W.Console.left e.link;
+      written = W.Console.written e.link;
+      why = e.why;
+      commands = e.commands;
+    })) }
+
+    // Every message of the whole input is answered, and the end is as its rest shows.
+    ensures whole { IfSome result.console (λ e. AnswersAll (W.input world.old) (record {
+      taken = W.Console.taken e.link;
+      left = W.Console.left e.link;
+      written = W.Console.written e.link;
+      why = e.why;
+      commands = e.commands;
+    })) }
 {
     if is_pipe(words) {
         let ended = serve_link(alloc, world.console(), 0, 0);

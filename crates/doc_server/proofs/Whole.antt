@@ -1,0 +1,92 @@
+-- A connection over a fresh link, and its whole input.
+use Rattle.std.proofs.Common.{◌≡◌, ℕ, ◌+◌, ◌⊎◌, inl, inr, List, [], ◌∷◌, ◌++◌, length, take, refl, sym, ap, subst, ◌∙◌, map, arith}
+use Rattle.std.specs.Prelude.{Option, None, Some}
+use Rattle.outside.specs.Told.{Tells, Grows, Shrinks}
+use Rattle.doc_server.specs.declared.message.Message.{Message}
+use Rattle.doc_server.specs.declared.why.Why.{Why}
+use Rattle.doc_server.specs.declared.why.Why.TheVariants.{Closed, Truncated, BadFrame, ReadFault, WriteFault, Long, NoMemory}
+use Rattle.doc_server.specs.Stream.{in_order, frames, BeginsNone}
+use Rattle.doc_server.specs.Script.{Executed, messages, bytes_of}
+use Rattle.doc_server.specs.Talk.{Scene, Wrote, Ends, AtEnd, Talk, Talks}
+use Rattle.doc_server.specs.Program.{End, TellsAnswers, Spoke, IsCutOff, Shows, script_of, Answered, AnswersAll}
+use Rattle.doc_server.proofs.Growth.{append-nil}
+use Rattle.doc_server.proofs.Scripts.{in_order-more}
+use Rattle.doc_server.proofs.Framing.{frames-one, none-empty, none-short, fault-more}
+
+-- what came after nothing is all
+tells-all : (old new : Option (List ℕ)) (all : List ℕ) → Tells old [] → Grows old new all → Tells new all
+tells-all None None all none grows = tt
+tells-all None (Some new) all none grows = absurd cc
+tells-all (Some old) None all none grows = tt
+tells-all (Some old) (Some new) all none grows = grows ∙ ap (λ b. b ++ all) none
+
+tells-answers : (why : Why) (old new : Option (List ℕ)) (all : List ℕ) → Tells old [] → Wrote why old new all → TellsAnswers why new all
+tells-answers Closed old new all none wrote = tells-all old new all none wrote
+tells-answers (Truncated size) old new all none wrote = tells-all old new all none wrote
+tells-answers BadFrame old new all none wrote = tells-all old new all none wrote
+tells-answers ReadFault old new all none wrote = tells-all old new all none wrote
+tells-answers WriteFault old new all none wrote = (wrote.0, tells-all old new (take wrote.0 all) none wrote.1)
+tells-answers Long old new all none wrote = tells-all old new all none wrote
+tells-answers NoMemory old new all none wrote = tells-all old new all none wrote
+
+spoke : (old new : Scene) (why : Why) (commands : ℕ) → Tells old.took [] → Tells old.wrote [] → (talks : Talks old new why commands) → Spoke (record { taken = new.took; left = new.left; written = new.wrote; why = why; commands = commands }) talks.0 talks.1 talks.2
+spoke old new why commands took wrote talks = record {
+  taken = tells-all old.took new.took talks.0 took talks.3.taken;
+  order = talks.3.order;
+  written = tells-answers why old.wrote new.wrote (bytes_of talks.1) wrote talks.3.written;
+  count = talks.3.count;
+  ends = talks.4;
+}
+
+script-messages : (ts : List Executed) → script_of (messages ts) ≡ ts
+script-messages [] = refl
+script-messages (t ∷ ts) = ap (λ us. t ∷ us) (script-messages ts)
+
+length-messages : (ts : List Executed) → length (messages ts) ≡ length ts
+length-messages [] = refl
+length-messages (t ∷ ts) = omega (arith, length-messages ts)
+
+-- a rest that shows the end, with what is left behind it
+shown : (why : Why) (all rest left : List ℕ) → Ends why all rest → AtEnd why (Some left) → IsCutOff why ⊎ (Shows why (rest ++ left) × BeginsNone (rest ++ left))
+shown Closed all rest left ends at_end = inr (subst (λ b. Shows Closed b × BeginsNone b) (sym (ap (λ l. rest ++ l) at_end ∙ append-nil rest)) (ends.0, subst BeginsNone (sym ends.0) none-empty))
+shown (Truncated size) all rest left ends at_end =
+    inr (subst (λ b. Shows (Truncated size) b × BeginsNone b) (sym (ap (λ l. rest ++ l) at_end ∙ append-nil rest)) ((ends.0, ends.1, ends.2), none-short rest ends.2))
+shown BadFrame all rest left ends at_end = inr (fault-more rest left ends)
+shown ReadFault all rest left ends at_end = inl tt
+shown WriteFault all rest left ends at_end = inl tt
+shown Long all rest left ends at_end = inl tt
+shown NoMemory all rest left ends at_end = inl tt
+
+-- where the connection was not cut off, all of it was written
+told-whole : (why : Why) (rest : List ℕ) (told : Option (List ℕ)) (all : List ℕ) → Shows why rest → TellsAnswers why told all → Tells told all
+told-whole Closed rest told all shows tells = tells
+told-whole (Truncated size) rest told all shows tells = tells
+told-whole BadFrame rest told all shows tells = tells
+told-whole ReadFault rest told all shows tells = absurd shows
+told-whole WriteFault rest told all shows tells = absurd shows
+told-whole Long rest told all shows tells = absurd shows
+told-whole NoMemory rest told all shows tells = absurd shows
+
+answers-all : (input : Option (List ℕ)) (e : End) (all : List ℕ) (script : List Executed) (rest : List ℕ) → Shrinks input e.left all → AtEnd e.why e.left → Spoke e all script rest → AnswersAll input e
+answers-all None e all script rest came at_end spoke = tt
+answers-all (Some input) e all script rest came at_end spoke = λ left left_is ms rest' framed.
+    let input_is : input ≡ all ++ left = subst (λ l. Shrinks (Some input) l all) left_is came in
+    let order : in_order input (messages script) (rest ++ left) = subst (λ b. in_order b (messages script) (rest ++ left)) (sym input_is) (in_order-more all left rest (messages script) spoke.order) in
+    elim (shown e.why all rest left spoke.ends (subst (AtEnd e.why) left_is at_end)) [
+      | inl cut ↦ inl cut
+      | inr found ↦
+          let one = frames-one input (messages script) ms (rest ++ left) rest' order found.1 framed.order framed.none_more in
+          let same : script_of ms ≡ script = ap script_of (sym one.0) ∙ script-messages script in
+          inr (record {
+            end = subst (Shows e.why) one.1 found.0;
+            count = spoke.count ∙ sym (length-messages script) ∙ ap length one.0;
+            written = rw same (told-whole e.why (rest ++ left) e.written (bytes_of script) found.0 spoke.written);
+          })
+    ]
+
+-- the same of what a served link tells
+pub whole : (input : Option (List ℕ)) (old new : Scene) (why : Why) (commands : ℕ) → Tells old.took [] → Tells old.wrote [] → old.left ≡ input → Talks old new why commands → AtEnd why new.left
+    → AnswersAll input (record { taken = new.took; left = new.left; written = new.wrote; why = why; commands = commands })
+whole input old new why commands took wrote left talks at_end =
+    answers-all input (record { taken = new.took; left = new.left; written = new.wrote; why = why; commands = commands }) talks.0 talks.1 talks.2 (subst (λ told. Shrinks told new.left talks.0) left talks.3.came) at_end
+    (spoke old new why commands took wrote talks)

@@ -104,7 +104,7 @@ module _ (old mid new : Scene) (commands count : ℕ) (rest buffer : List ℕ) w
   stops Closed going is low stop = quiet Closed stop.0 going stop.1 stop.2.0 (λ all wrote. wrote) (λ all size. (sym is ∙ stop.2.1, omega (arith, size, stop.2.2)))
   stops (Truncated size) going is low stop =
       quiet (Truncated size) stop.0 going stop.1 stop.2.0 (λ all wrote. wrote) (λ all sum. (stop.2.1 ∙ ap length is, λ none. stop.2.2 (is ∙ none), low, omega (arith, sum, stop.2.3)))
-  stops ReadFault going is low stop = quiet ReadFault stop.0 going stop.1 stop.2 (λ all wrote. wrote) (λ all sum. low)
+  stops ReadFault going is low stop = quiet ReadFault stop.0 going stop.1 stop.2.0 (λ all wrote. wrote) (λ all sum. (low, omega (arith, sum, stop.2.1)))
   stops Long going is low stop = quiet Long stop.0 going stop.1 stop.2.0 (λ all wrote. wrote) (λ all sum. (low, sum ∙ stop.2.1))
   stops NoMemory going is low stop =
       let talk = came old mid new commands going.0 stop.0 going.1 rest going.3 stop.1 in

@@ -5,3 +5,4 @@ pub mod Messages
 pub mod Fronts
 pub mod Framing
 pub mod Whole
+pub mod Answering

@@ -77,3 +77,7 @@ pub record Answered (e : End) (ms : List Message) (rest : List ℕ) : Type 0 whe
 abbrev pub AnswersAll : Option (List ℕ) → End → Type 0
 AnswersAll None e = Unit {0}
 AnswersAll (Some input) e = (left : List ℕ) → e.left ≡ Some left → (ms : List Message) (rest : List ℕ) → frames input ms rest → IsCutOff e.why ⊎ Answered e ms rest
+
+-- the statuses that come where no call of the console can fail: its input is answered, cut, bad or too long, or memory ran out
+abbrev pub IsSureStatus : ℕ → Type 0
+IsSureStatus status = (status ≡ 0) ⊎ (status ≡ 6) ⊎ (status ≡ 7) ⊎ (status ≡ 9) ⊎ (status ≡ 10)

@@ -34,7 +34,7 @@ Answers replied.NoMemory old new all = new ≡ old
 abbrev pub Stops : Why → ℕ → List ℕ → List ℕ → Type 0
 Stops why.Closed count buffer piece = (piece ≡ []) × (buffer ≡ []) × (count < 2 ^ 40)
 Stops (why.Truncated size) count buffer piece = (piece ≡ []) × (size ≡ length buffer) × (buffer ≢ []) × (count < 2 ^ 40)
-Stops why.ReadFault count buffer piece = piece ≡ []
+Stops why.ReadFault count buffer piece = (piece ≡ []) × (count < 2 ^ 40)
 Stops why.Long count buffer piece = (piece ≡ []) × (count ≡ 2 ^ 40)
 Stops why.NoMemory count buffer piece = Unit {0}
 Stops _ count buffer piece = ⊥

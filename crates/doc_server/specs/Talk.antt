@@ -17,7 +17,7 @@ abbrev pub Ends : Why → List ℕ → List ℕ → Type 0
 Ends Closed all rest = (rest ≡ []) × (length all < 2 ^ 40)
 Ends (Truncated size) all rest = (size ≡ length rest) × (rest ≢ []) × short rest × (length all < 2 ^ 40)
 Ends BadFrame all rest = fault rest
-Ends ReadFault all rest = short rest
+Ends ReadFault all rest = short rest × (length all < 2 ^ 40)
 Ends WriteFault all rest = Unit {0}
 Ends Long all rest = short rest × (length all ≡ 2 ^ 40)
 Ends NoMemory all rest = Unit {0}

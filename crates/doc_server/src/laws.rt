@@ -1,0 +1,8 @@
+ghost use Rattle.doc_server.specs.declared.why.Why.{Why as End};
+ghost use Rattle.doc_server.specs.Talk.{Faults};
+ghost use Rattle.doc_server.specs.Program.{status_of, IsSureStatus};
+
+/// Over a console whose counts of faults stay 0 the status of `pipe` is 0, 6, 7, 9 or 10.
+pub fn a_console_that_cannot_fail_has_no_fault()
+    ensures { (why : End) → Faults why 0 0 0 0 → IsSureStatus (status_of why) }
+{}

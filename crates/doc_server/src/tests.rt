@@ -1,0 +1,235 @@
+ghost use Rattle.std.specs.Prelude.{Some, IfOk};
+ghost use Rattle.outside.specs.MemoryLink.{IsFreshMemoryLink};
+ghost use Rattle.outside.specs.Source.{moments_of};
+
+use crate::{Ended, Finished, Why, answers_to, ferret, serve_link};
+use bson_values::{Bytes, List, NoMemory};
+use outside::{Failed, Gate, Link, MemoryLink, MemoryWorld};
+use std::alloc::Global;
+use std::test::Fail;
+
+/// `{ping: 1, $db: "admin"}` with requestID 1.
+const PING: [u8; 51] = [
+    0x33, 0, 0, 0, 1, 0, 0, 0, 0, 0, 0, 0, 0xdd, 7, 0, 0, 0, 0, 0, 0, 0, 0x1e, 0, 0, 0, 0x10, 0x70,
+    0x69, 0x6e, 0x67, 0, 1, 0, 0, 0, 2, 0x24, 0x64, 0x62, 0, 6, 0, 0, 0, 0x61, 0x64, 0x6d, 0x69,
+    0x6e, 0, 0,
+];
+
+/// `{ok: 1}`, the first reply, to requestID 1.
+const OK: [u8; 34] = [
+    0x22, 0, 0, 0, 1, 0, 0, 0, 1, 0, 0, 0, 0xdd, 7, 0, 0, 0, 0, 0, 0, 0, 0xd, 0, 0, 0, 0x10, 0x6f,
+    0x6b, 0, 1, 0, 0, 0, 0,
+];
+
+/// `{pong: 1, $db: "a"}` with requestID 7.
+const PONG: [u8; 47] = [
+    0x2f, 0, 0, 0, 7, 0, 0, 0, 0, 0, 0, 0, 0xdd, 7, 0, 0, 0, 0, 0, 0, 0, 0x1a, 0, 0, 0, 0x10, 0x70,
+    0x6f, 0x6e, 0x67, 0, 1, 0, 0, 0, 2, 0x24, 0x64, 0x62, 0, 2, 0, 0, 0, 0x61, 0, 0,
+];
+
+/// `{ok: 0, errmsg: "no such command", code: 59, codeName: "CommandNotFound"}`, the first reply, to
+/// requestID 7.
+const NOT_FOUND: [u8; 102] = [
+    0x66, 0, 0, 0, 1, 0, 0, 0, 7, 0, 0, 0, 0xdd, 7, 0, 0, 0, 0, 0, 0, 0, 0x51, 0, 0, 0, 0x10, 0x6f,
+    0x6b, 0, 0, 0, 0, 0, 2, 0x65, 0x72, 0x72, 0x6d, 0x73, 0x67, 0, 0x10, 0, 0, 0, 0x6e, 0x6f, 0x20,
+    0x73, 0x75, 0x63, 0x68, 0x20, 0x63, 0x6f, 0x6d, 0x6d, 0x61, 0x6e, 0x64, 0, 0x10, 0x63, 0x6f,
+    0x64, 0x65, 0, 0x3b, 0, 0, 0, 2, 0x63, 0x6f, 0x64, 0x65, 0x4e, 0x61, 0x6d, 0x65, 0, 0x10, 0, 0,
+    0, 0x43, 0x6f, 0x6d, 0x6d, 0x61, 0x6e, 0x64, 0x4e, 0x6f, 0x74, 0x46, 0x6f, 0x75, 0x6e, 0x64, 0,
+    0,
+];
+
+fn numbers(alloc: Global, numbers: &[u64]) -> Result<List<u64>, NoMemory> {
+    Ok(List::from_vec(Vec::from_slice(alloc, numbers)?))
+}
+
+/// A link over the input, whose reads are cut to `cut` bytes each.
+fn link(
+    alloc: Global,
+    input: &[u8],
+    cut: u64,
+    bad_reads: &[u64],
+    bad_writes: &[u64],
+) -> Result<MemoryLink, NoMemory>
+    ensures { IfOk result IsFreshMemoryLink }
+{
+    let input = Bytes::of(alloc, input)?;
+    let cuts = List::from_vec(vec![in alloc; cut; 120]?);
+    let bad_reads = numbers(alloc, bad_reads)?;
+    let bad_writes = numbers(alloc, bad_writes)?;
+    let moments = List::new(alloc);
+    Ok(MemoryLink::new(alloc, input, cuts, bad_reads, bad_writes, moments))
+}
+
+fn piped(
+    alloc: Global,
+    words: &[&str],
+    input: &[u8],
+    cut: u64,
+    bad_reads: &[u64],
+    bad_writes: &[u64],
+) -> Result<Finished<MemoryLink>, Fail> {
+    let mut line = Vec::new(alloc);
+    for word in words {
+        line.push(String::from_str(alloc, word)?)?;
+    }
+    let mut world = MemoryWorld::new(link(alloc, input, cut, bad_reads, bad_writes)?);
+    Ok(ferret(alloc, &line, &mut world))
+}
+
+#[test]
+fn each_input_has_its_status_and_its_answers(rt: HostRuntime) -> Result<(), Fail> {
+    let rows: [(&str, &[u8], u8, u64, &[u8]); 6] = [
+        ("a ping", &PING, 0, 1, &OK),
+        ("all but its last byte", &PING[..50], 6, 0, &[]),
+        ("nothing", &[], 0, 0, &[]),
+        ("one byte", b"x", 6, 0, &[]),
+        ("no such command", &PONG, 0, 1, &NOT_FOUND),
+        ("a length of 15", &[15, 0, 0, 0], 7, 0, &[]),
+    ];
+    for (name, input, status, commands, written) in rows {
+        let finished = piped(rt.alloc(), &["pipe"], input, 65_536, &[], &[])?;
+        assert_eq!(rt; finished.status, status, "{name}");
+        let Some(console) = finished.console else {
+            panic!(rt; "{name}: no console");
+        };
+        assert_eq!(rt; console.commands, commands, "{name}");
+        assert_eq!(rt;
+            console.link.written().unwrap_or(b"untold"),
+            written,
+            "{name}"
+        );
+    }
+    Ok(())
+}
+
+#[test]
+fn other_words_are_bad(rt: HostRuntime) -> Result<(), Fail> {
+    let rows: [&[&str]; 4] = [&[], &["pong"], &["pipe", "pipe"], &["pip"]];
+    for words in rows {
+        let finished = piped(rt.alloc(), words, &PING, 65_536, &[], &[])?;
+        assert_eq!(rt; finished.status, 1);
+        assert!(rt; finished.console.is_none());
+    }
+    Ok(())
+}
+
+#[test]
+fn the_cuts_of_the_input_do_not_show(rt: HostRuntime) -> Result<(), Fail> {
+    let mut input = Bytes::of(rt.alloc(), &PING)?;
+    input.extend(&PING)?;
+    let answers = answers_to(rt.alloc(), input.as_slice())?;
+    assert_eq!(rt; answers.len(), 68);
+    assert_eq!(rt; answers.as_slice()[38], 2, "the second requestID");
+    for cut in [1, 3, 65_536] {
+        let finished = piped(rt.alloc(), &["pipe"], input.as_slice(), cut, &[], &[])?;
+        assert_eq!(rt; finished.status, 0, "cut to {cut}");
+        let Some(console) = finished.console else {
+            panic!(rt; "no console");
+        };
+        assert_eq!(rt;
+            console.link.written().unwrap_or(b""),
+            answers.as_slice(),
+            "cut to {cut}"
+        );
+    }
+    Ok(())
+}
+
+#[test]
+fn a_failed_call_ends_the_connection_at_once(rt: HostRuntime) -> Result<(), Fail> {
+    for read in 0..=51 {
+        let finished = piped(rt.alloc(), &["pipe"], &PING, 1, &[read], &[])?;
+        assert_eq!(rt; finished.status, 8, "read {read}");
+    }
+    let mut input = Bytes::of(rt.alloc(), &PING)?;
+    input.extend(&PING)?;
+    for (write, len) in [(0, 0), (1, 34)] {
+        let finished = piped(
+            rt.alloc(),
+            &["pipe"],
+            input.as_slice(),
+            65_536,
+            &[],
+            &[write],
+        )?;
+        assert_eq!(rt; finished.status, 4, "write {write}");
+        let Some(console) = finished.console else {
+            panic!(rt; "no console");
+        };
+        assert_eq!(rt; console.commands, write + 1, "write {write}");
+        assert_eq!(rt;
+            console.link.written().unwrap_or(b"").len(),
+            len,
+            "write {write}"
+        );
+    }
+    Ok(())
+}
+
+/// Takes one byte at a call, and counts how often it is shut.
+#[derive(Drop)]
+struct Slow {
+    link: MemoryLink,
+    shuts: u64,
+}
+
+impl Gate for Slow {
+    ghost taken = { λ slow. Some slow.link.source.taken };
+
+    ghost left = { λ slow. Some slow.link.source.left };
+
+    ghost written = { λ slow. Some slow.link.written };
+
+    ghost moments = { λ slow. moments_of slow.link.source };
+
+    ghost read_faults = { λ slow. slow.link.read_faults };
+
+    ghost write_faults = { λ slow. slow.link.write_faults };
+
+    fn between(&mut self) {
+        self.link.between();
+    }
+}
+
+impl Link for Slow {
+    fn read(&mut self, into: &mut [u8]) -> Result<usize, Failed> {
+        self.link.read(into)
+    }
+
+    fn write(&mut self, from: &[u8]) -> Result<usize, Failed> {
+        match from {
+            [first, ..] => self.link.write(&[*first]),
+            [] => Ok(0),
+        }
+    }
+
+    fn now(&mut self) -> u64 {
+        self.link.now()
+    }
+
+    fn shut(&mut self) {
+        self.link.shut();
+        self.shuts = self.shuts.saturating_add(1);
+    }
+}
+
+fn served(alloc: Global, bad_writes: &[u64]) -> Result<Ended<Slow>, NoMemory> {
+    let link = link(alloc, &PING, 65_536, &[], bad_writes)?;
+    Ok(serve_link(alloc, Slow { link, shuts: 0 }, 3, 5))
+}
+
+#[test]
+fn an_answer_goes_out_byte_by_byte_and_the_link_is_shut(rt: HostRuntime) -> Result<(), Fail> {
+    let ended = served(rt.alloc(), &[])?;
+    assert!(rt; matches!(ended.why, Why::Closed));
+    assert_eq!(rt; ended.link.link.written().unwrap_or(b""), OK.as_slice());
+    assert_eq!(rt; (ended.seat, ended.number, ended.link.shuts), (3, 5, 1));
+    for write in 0..34 {
+        let ended = served(rt.alloc(), &[write])?;
+        assert!(rt; matches!(ended.why, Why::WriteFault), "write {write}");
+        let written = ended.link.link.written().unwrap_or(b"");
+        assert_eq!(rt; written, &OK[..write as usize], "write {write}");
+        assert_eq!(rt; ended.link.shuts, 1, "write {write}");
+    }
+    Ok(())
+}

@@ -12,7 +12,8 @@ use Rattle.bson_wire.specs.Reading.{Fails, document_at}
 use Rattle.bson_wire.proofs.Bytes.{IsBytes}
 use Rattle.bson_wire.proofs.Documents.{document_takes, document_again}
 
-pub read_found : (bytes rest : List ℕ) (doc : List (Pair Value)) (used : ℕ) → IsBytes bytes → document_at bytes ≡ Some (doc, rest) → used ≡ length bytes - length rest → (used ≤ length bytes) × spells (take used bytes) doc
+pub read_found : (bytes rest : List ℕ) (doc : List (Pair Value)) (used : ℕ) → IsBytes bytes
+    → document_at bytes ≡ Some (doc, rest) → used ≡ length bytes - length rest → (used ≤ length bytes) × spells (take used bytes) doc
 read_found bytes rest doc used fits is count =
     let taken = document_takes bytes (doc, rest) fits is in
     let len : length taken.0 ≡ used = omega (arith, ap length taken.1, length-append taken.0 rest) in
@@ -25,6 +26,7 @@ read_only bytes after found used is count doc spelling rest spelled whole =
     let both = same_Some (found, after) (doc, rest) (sym is ∙ ap document_at whole ∙ document_again spelling doc rest spelled) in
     (ap (λ (it : List (Pair Value) × List ℕ). it.0) both, omega (arith, ap length whole, length-append spelling rest, ap (λ (it : List (Pair Value) × List ℕ). length it.1) both))
 
-pub read_refused : (bytes : List ℕ) (refused : ReadRefused) → Fails refused (document_at bytes) → (doc : List (Pair Value)) (spelling rest : List ℕ) → spells spelling doc → bytes ≡ spelling ++ rest → refused ≡ NoMemory
+pub read_refused : (bytes : List ℕ) (refused : ReadRefused) → Fails refused (document_at bytes)
+    → (doc : List (Pair Value)) (spelling rest : List ℕ) → spells spelling doc → bytes ≡ spelling ++ rest → refused ≡ NoMemory
 read_refused bytes NoMemory fails doc spelling rest spelled whole = refl
 read_refused bytes Malformed fails doc spelling rest spelled whole = absurd (cc (fails, ap document_at whole, document_again spelling doc rest spelled))

@@ -17,6 +17,10 @@ IsBytes-front front rest bytes whole fits i =
 pub IsBytes-rest : (front rest bytes : List ℕ) → bytes ≡ front ++ rest → IsBytes bytes → IsBytes rest
 IsBytes-rest front rest bytes whole fits i = rw (← get_or-append-add front rest i 0, ← whole) (fits (length front + i))
 
+-- a spelling of what was found, and the rest
+abbrev pub Takes : {A : Type 0} → (List ℕ → A → Type 0) → List ℕ → A × List ℕ → Type 0
+Takes IsSpelling bytes found = (spelling : List ℕ) × (bytes ≡ spelling ++ found.1) × IsSpelling spelling found.0
+
 -- a part, a second one, and the rest
 pub regrouped : (whole first middle second rest : List ℕ) → whole ≡ first ++ middle → middle ≡ second ++ rest → whole ≡ (first ++ second) ++ rest
 regrouped whole first middle second rest one two = one ∙ ap (λ (part : List ℕ). first ++ part) two ∙ sym (append_assoc first second rest)

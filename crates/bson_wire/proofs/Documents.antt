@@ -1,5 +1,5 @@
 -- Documents: what is read is spelled so, and what is spelled so is read.
-use Rattle.std.proofs.Common.{◌≡◌, ℕ, zero, suc, ◌+◌, ◌-◌, ◌<◌, ◌≤◌, List, [], ◌∷◌, ◌++◌, length, refl, sym, ap, subst, ◌∙◌, append_assoc, arith}
+use Rattle.std.proofs.Common.{◌≡◌, ℕ, zero, suc, ◌+◌, ◌-◌, ◌^◌, ◌<◌, ◌≤◌, List, [], ◌∷◌, ◌++◌, length, refl, sym, ap, ◌∙◌, append_assoc, arith}
 use Rattle.std.specs.Prelude.{Option, Some}
 use Rattle.std.proofs.lemmas.List.{length-append, append_cancel_right}
 use Rattle.std.proofs.lemmas.Option.{same_Some}
@@ -9,8 +9,8 @@ use Rattle.bson_values.specs.declared.value.Value.{Value}
 use Rattle.bson_wire.specs.Spelling.{int32, cstring}
 use Rattle.bson_wire.specs.Grammar.{AreElements, spells}
 use Rattle.bson_wire.specs.Reading.{◌>>=◌, length_at, ended_at, element_at, elements_at, document_at}
-use Rattle.bson_wire.proofs.Steps.{bind_some}
-use Rattle.bson_wire.proofs.Bytes.{IsBytes, IsBytes-front, IsBytes-rest, regrouped}
+use Rattle.bson_wire.proofs.Steps.{bind_some, at_found}
+use Rattle.bson_wire.proofs.Bytes.{IsBytes, IsBytes-front, IsBytes-rest, Takes, regrouped}
 use Rattle.bson_wire.proofs.Numbers.{length_takes, length_again}
 use Rattle.bson_wire.proofs.Names.{ended_takes, ended_again}
 use Rattle.bson_wire.proofs.Values.{element_takes, element_again}
@@ -21,7 +21,7 @@ Doc = List (Pair Value)
 -- ---- elements
 
 none_is : (doc : Doc) → ◌≡◌ {A = Option Doc} (Some []) (Some doc) → AreElements [] doc
-none_is doc is = subst (λ (it : Doc). AreElements [] it) (same_Some [] doc is) refl
+none_is doc is = at_found (AreElements []) [] doc is refl
 
 pub elements_take : (most : ℕ) (bytes : List ℕ) (doc : Doc) → IsBytes bytes → elements_at most bytes ≡ Some doc → AreElements bytes doc
 unfolding elements_at
@@ -32,7 +32,7 @@ elements_take (suc most) (code ∷ bytes) doc fits is =
     let others = bind_some (elements_at most first.0.1) (λ others. Some (first.0.0 ∷ others)) doc first.2 in
     let taken = element_takes code bytes first.0 (IsBytes-rest (code ∷ []) bytes (code ∷ bytes) refl fits) first.1 in
     let more = elements_take most first.0.1 others.0 (IsBytes-rest taken.0 first.0.1 (code ∷ bytes) taken.1 fits) others.1 in
-    subst (λ (it : Doc). AreElements (code ∷ bytes) it) (same_Some (first.0.0 ∷ others.0) doc others.2) (taken.0, first.0.1, taken.1, taken.2, more)
+    at_found (AreElements (code ∷ bytes)) (first.0.0 ∷ others.0) doc others.2 (taken.0, first.0.1, taken.1, taken.2, more)
 
 pub elements_again : (doc : Doc) (most : ℕ) (bytes : List ℕ) → AreElements bytes doc → length bytes < most → elements_at most bytes ≡ Some doc
 unfolding elements_at
@@ -47,11 +47,15 @@ elements_again (pair ∷ doc) (suc most) bytes are below =
 
 -- ---- documents
 
--- a document is as long as it says
-counted : (stated : ℕ) (inside : List ℕ) → length inside + 1 ≡ stated - 4 → 5 ≤ stated → length (int32 stated ++ cstring inside) ≡ stated
-counted stated inside is least = omega (arith, length-append (int32 stated) (cstring inside), length-append inside (0 ∷ []), length-bytes_low_first 0 4 stated)
+-- elements between their stated length and a 00 byte are a document
+document_made : (stated : ℕ) (inside : List ℕ) (doc : Doc) → length inside + 1 ≡ stated - 4 → 5 ≤ stated → stated < 2 ^ 31 → AreElements inside doc → spells (int32 stated ++ cstring inside) doc
+document_made stated inside doc counted least small elements =
+    let spelling = int32 stated ++ cstring inside in
+    let len : length spelling ≡ stated = omega (arith, length-append (int32 stated) (cstring inside), length-append inside (0 ∷ []), length-bytes_low_first 0 4 stated) in
+    let whole : spelling ≡ int32 (length spelling) ++ cstring inside = ap (λ (n : ℕ). int32 n ++ cstring inside) (sym len) in
+    record { inside = inside; small = omega arith; whole = whole ∙ sym (append_assoc (int32 (length spelling)) inside (0 ∷ [])); elements = elements }
 
-pub document_takes : (bytes : List ℕ) (found : Doc × List ℕ) → IsBytes bytes → document_at bytes ≡ Some found → (spelling : List ℕ) × (bytes ≡ spelling ++ found.1) × spells spelling found.0
+pub document_takes : (bytes : List ℕ) (found : Doc × List ℕ) → IsBytes bytes → document_at bytes ≡ Some found → Takes spells bytes found
 unfolding document_at
 document_takes bytes found fits is =
     let number = bind_some (length_at 5 bytes) (λ n. ended_at (n.0 - 4) n.1 >>= λ inside. elements_at (length inside.0 + 1) inside.0 >>= λ doc. Some (doc, inside.1)) found is in
@@ -63,23 +67,22 @@ document_takes bytes found fits is =
     let grouped : number.0.1 ≡ inside.0.0 ++ (0 ∷ inside.0.1) = ended.0 ∙ append_assoc inside.0.0 (0 ∷ []) inside.0.1 in
     let are = elements_take (length inside.0.0 + 1) inside.0.0 doc.0 (IsBytes-front inside.0.0 (0 ∷ inside.0.1) number.0.1 grouped fits_after) doc.1 in
     let whole = regrouped bytes (int32 number.0.0) number.0.1 (cstring inside.0.0) inside.0.1 stated.0 ended.0 in
-    let len = counted number.0.0 inside.0.0 ended.1 stated.1 in
-    let made : spells (int32 number.0.0 ++ cstring inside.0.0) doc.0 = record {
-      inside = inside.0.0;
-      small = omega arith;
-      whole = ap (λ (n : ℕ). int32 n ++ cstring inside.0.0) (sym len) ∙ sym (append_assoc (int32 (length (int32 number.0.0 ++ cstring inside.0.0))) inside.0.0 (0 ∷ []));
-      elements = are;
-    } in
-    subst (λ (it : Doc × List ℕ). (spelling : List ℕ) × (bytes ≡ spelling ++ it.1) × spells spelling it.0) (same_Some (doc.0, inside.0.1) found doc.2) (int32 number.0.0 ++ cstring inside.0.0, whole, made)
+    let made = document_made number.0.0 inside.0.0 doc.0 ended.1 stated.1 stated.2 are in
+    at_found (Takes spells bytes) (doc.0, inside.0.1) found doc.2 (int32 number.0.0 ++ cstring inside.0.0, whole, made)
 
 pub document_again : (spelling : List ℕ) (doc : Doc) (rest : List ℕ) → spells spelling doc → document_at (spelling ++ rest) ≡ Some (doc, rest)
 unfolding document_at
 document_again spelling doc rest is =
-    let regroup : spelling ++ rest ≡ int32 (length spelling) ++ (cstring is.inside ++ rest) =
-    ap (λ (it : List ℕ). it ++ rest) (is.whole ∙ append_assoc (int32 (length spelling)) is.inside (0 ∷ [])) ∙ append_assoc (int32 (length spelling)) (cstring is.inside) rest in
-    let len : length spelling ≡ 4 + (length is.inside + 1) = ap length (is.whole ∙ append_assoc (int32 (length spelling)) is.inside (0 ∷ [])) ∙ omega (arith, length-append (int32 (length spelling)) (cstring is.inside), length-append is.inside (0 ∷ []), length-bytes_low_first 0 4 (length spelling)) in
-    ap document_at regroup
-    ∙ rw (length_again 5 (length spelling) (cstring is.inside ++ rest) (omega arith) is.small, ended_again (length spelling - 4) is.inside rest (omega arith), elements_again doc (length is.inside + 1) is.inside is.elements (omega arith)) refl
+    let stated = int32 (length spelling) in
+    let whole : spelling ≡ stated ++ cstring is.inside = is.whole ∙ append_assoc stated is.inside (0 ∷ []) in
+    let regroup : spelling ++ rest ≡ stated ++ (cstring is.inside ++ rest) = ap (λ (it : List ℕ). it ++ rest) whole ∙ append_assoc stated (cstring is.inside) rest in
+    let lengths : length (stated ++ cstring is.inside) ≡ 4 + (length is.inside + 1) =
+    omega (arith, length-append stated (cstring is.inside), length-append is.inside (0 ∷ []), length-bytes_low_first 0 4 (length spelling)) in
+    let len : length spelling ≡ 4 + (length is.inside + 1) = ap length whole ∙ lengths in
+    let front = length_again 5 (length spelling) (cstring is.inside ++ rest) (omega arith) is.small in
+    let ended = ended_again (length spelling - 4) is.inside rest (omega arith) in
+    let elements = elements_again doc (length is.inside + 1) is.inside is.elements (omega arith) in
+    ap document_at regroup ∙ rw (front, ended, elements) refl
 
 -- no spelling begins another
 pub same_spelling : (a b x y : List ℕ) (m n : Doc) → spells a m → spells b n → a ++ x ≡ b ++ y → (a ≡ b) × (m ≡ n)

@@ -6,11 +6,11 @@ use Rattle.std.proofs.lemmas.List.{length-append, length-take, take_at, drop_at,
 use Rattle.std.proofs.lemmas.List.Elements.{All-get_or, All-from_get_or}
 use Rattle.std.proofs.lemmas.List.Quantifiers.{position-Some}
 use Rattle.std.proofs.lemmas.List.Sums.{position_or_len_is}
-use Rattle.std.proofs.lemmas.Option.{same_Some, cond_some}
+use Rattle.std.proofs.lemmas.Option.{cond_some}
 use Rattle.bson_wire.specs.Spelling.{cstring}
 use Rattle.bson_wire.specs.Grammar.{IsName}
 use Rattle.bson_wire.specs.Reading.{◌>>=◌, text_of, name_at, ended_at}
-use Rattle.bson_wire.proofs.Steps.{bind_some, unless_some}
+use Rattle.bson_wire.proofs.Steps.{bind_some, unless_some, at_found}
 use Rattle.bson_wire.proofs.Bytes.{nul_at}
 use Rattle.bson_wire.proofs.Texts.{text_again, text_takes}
 
@@ -24,7 +24,7 @@ name_takes bytes found is =
     let ended = nul_at bytes place.0 first.0 (eqb-true _ _ first.1) in
     let no_nul : All (λ byte. byte ≢ 0) (take place.0 bytes) = All-from_get_or (λ byte. byte ≢ 0) (take place.0 bytes) 0
     (λ i within. let below : i < place.0 = omega (arith, length-take place.0 bytes) in rw (get_or-take place.0 bytes i 0 below) (eqb-false _ _ (first.2 i below))) in
-    subst (λ (it : List ℕ × List ℕ). (bytes ≡ cstring it.0 ++ it.1) × IsName it.0) (same_Some (text.0, drop (place.0 + 1) bytes) found text.2)
+    at_found (λ it. (bytes ≡ cstring it.0 ++ it.1) × IsName it.0) (text.0, drop (place.0 + 1) bytes) found text.2
     (ended ∙ ap (λ (text : List ℕ). cstring text ++ drop (place.0 + 1) bytes) utf8.0, record { utf8 = utf8.1; no_nul = subst (λ (text : List ℕ). All (λ byte. byte ≢ 0) text) utf8.0 no_nul })
 
 -- the first 00 byte is the one that ends the name
@@ -46,7 +46,8 @@ name_again name rest is =
     let after : drop (length name + 1) (cstring name ++ rest) ≡ rest = drop_at (cstring name) rest (length name + 1) (length-append name (0 ∷ [])) in
     rw (place, front, after, text_again name is.utf8) refl
 
-pub ended_takes : (len : ℕ) (bytes : List ℕ) (found : List ℕ × List ℕ) → 0 < len → ended_at len bytes ≡ Some found → (bytes ≡ cstring found.0 ++ found.1) × (length found.0 + 1 ≡ len)
+pub ended_takes : (len : ℕ) (bytes : List ℕ) (found : List ℕ × List ℕ) → 0 < len → ended_at len bytes ≡ Some found
+    → (bytes ≡ cstring found.0 ++ found.1) × (length found.0 + 1 ≡ len)
 unfolding ended_at
 ended_takes len bytes found some is =
     let test = unless_some (ltb (length bytes) len) _ found is in

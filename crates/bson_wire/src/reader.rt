@@ -46,7 +46,6 @@ fn length(bytes: &[u8], least: usize) -> Result<(usize, &[u8]), ReadRefused>
     Ok((len, rest))
 }
 
-#[tactic(auto, using(std::proofs::lemmas::Str::utf8_valid_len_le), unfolding(crate::specs::Reading::text_of))]
 fn text(alloc: Global, bytes: &[u8]) -> Result<Text, ReadRefused>
     ensures { Gives (λ it. it) result (text_of bytes.now) }
 {
@@ -129,7 +128,8 @@ fn value(alloc: Global, code: u8, bytes: &[u8]) -> Result<(Value, &[u8]), ReadRe
 /// The name and the value of an element, behind its type byte.
 #[tactic(auto, unfolding(crate::specs::Reading::element_at))]
 fn element(alloc: Global, code: u8, bytes: &[u8]) -> Result<(Text, Value, &[u8]), ReadRefused>
-    ensures value { Gives (λ it. (record { name = it.0; value = it.1 }, it.2.now)) result (element_at code bytes.now) }
+    ensures value { Gives (λ it. (record { name = it.0; value = it.1 }, it.2.now)) result
+        (element_at code bytes.now) }
     ensures shorter { IfOk result (λ it. length it.2.now ≤ length bytes.now) }
 {
     let (name, rest) = name(alloc, bytes)?;

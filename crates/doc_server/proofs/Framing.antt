@@ -1,13 +1,9 @@
 -- A stream has one framing.
-use Rattle.std.proofs.Common.{◌≡◌, ◌≢◌, ℕ, ◌+◌, ◌≤◌, ◌<◌, ◌⊎◌, inl, inr, List, [], ◌∷◌, ◌++◌, length, take, drop, refl, sym, ap, subst, ◌∙◌, append_assoc, arith, length-append}
+use Rattle.std.proofs.Common.{◌≡◌, ℕ, ◌≤◌, inl, inr, List, [], ◌∷◌, ◌++◌, length, take, drop, refl, sym, ap, subst, ◌∙◌, arith, length-append}
 use Rattle.std.proofs.lemmas.List.{take_at, drop_at, take-append-drop, take-append-le}
-use Rattle.std.specs.Int.{w32, cast_signed}
-use Rattle.byteorder.specs.Endian.{little_number}
-use Rattle.bson_wire.specs.Grammar.{spells}
 use Rattle.bson_wire.proofs.Documents.{same_spelling}
 use Rattle.doc_server.specs.declared.message.Message.{Message}
-use Rattle.doc_server.specs.Stream.{InRange, message, in_order, BeginsNone, stated, short, fault}
-use Rattle.doc_server.proofs.Growth.{append-nil}
+use Rattle.doc_server.specs.Stream.{message, in_order, BeginsNone, stated, short, fault}
 use Rattle.doc_server.proofs.Messages.{placed}
 use Rattle.doc_server.proofs.Fronts.{message-stated, stated-append, message-front}
 

@@ -1,14 +1,13 @@
 -- A connection over a fresh link, and its whole input.
-use Rattle.std.proofs.Common.{◌≡◌, ℕ, ◌+◌, ◌⊎◌, inl, inr, List, [], ◌∷◌, ◌++◌, length, take, refl, sym, ap, subst, ◌∙◌, map, arith}
+use Rattle.std.proofs.Common.{◌≡◌, ℕ, ◌⊎◌, inl, inr, List, [], ◌∷◌, ◌++◌, length, take, refl, sym, ap, subst, ◌∙◌, arith}
 use Rattle.std.specs.Prelude.{Option, None, Some}
 use Rattle.outside.specs.Told.{Tells, Grows, Shrinks}
-use Rattle.doc_server.specs.declared.message.Message.{Message}
 use Rattle.doc_server.specs.declared.why.Why.{Why}
 use Rattle.doc_server.specs.declared.why.Why.TheVariants.{Closed, Truncated, BadFrame, ReadFault, WriteFault, Long, NoMemory}
-use Rattle.doc_server.specs.Stream.{in_order, frames, BeginsNone}
+use Rattle.doc_server.specs.Stream.{in_order, BeginsNone}
 use Rattle.doc_server.specs.Script.{Executed, messages, bytes_of}
-use Rattle.doc_server.specs.Talk.{Scene, Wrote, Ends, AtEnd, Talk, Talks}
-use Rattle.doc_server.specs.Program.{End, TellsAnswers, Spoke, IsCutOff, Shows, script_of, Answered, AnswersAll}
+use Rattle.doc_server.specs.Talk.{Scene, Wrote, Ends, AtEnd, Talks}
+use Rattle.doc_server.specs.Program.{End, TellsAnswers, Spoke, IsCutOff, Shows, script_of, AnswersAll}
 use Rattle.doc_server.proofs.Growth.{append-nil}
 use Rattle.doc_server.proofs.Scripts.{in_order-more}
 use Rattle.doc_server.proofs.Framing.{frames-one, none-empty, none-short, fault-more}

@@ -1,5 +1,5 @@
 -- A stream as messages: OP_MSG of the Wire Protocol, in the part that is built: no flags, one body.
-use Rattle.std.specs.Prelude.{ℕ, ◌≡◌, ◌≢◌, ◌+◌, ◌≤◌, ◌<◌, ◌⊎◌, List, [], ◌∷◌, ◌++◌, length, drop, slice_index, Bool, ◌==◌, ◌&&◌, FitsSigned}
+use Rattle.std.specs.Prelude.{ℕ, ◌≡◌, ◌≤◌, ◌<◌, ◌⊎◌, List, [], ◌∷◌, ◌++◌, length, drop, slice_index, Bool, ◌==◌, ◌&&◌, FitsSigned}
 use Rattle.std.specs.Int.{w32, cast_unsigned}
 use Rattle.byteorder.specs.Endian.{little_number}
 use Rattle.bson_wire.specs.Spelling.{int32}

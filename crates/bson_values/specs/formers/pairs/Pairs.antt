@@ -7,7 +7,7 @@ use base.Stored.{code_map, gcons, coded_list, coded_ℕ}
 use denote.RattleType.{RattleType}
 use denote.HoleLaws.{Alike}
 use denote.HolePlaces.{Recodes, struct_places, laid}
-use denote.Hole.Carrier.{listed, list-listed}
+use denote.Hole.Carrier.{listed}
 use denote.Hole.Fix.{over}
 use denote.Param.Weighed.{Weighed, w_list, w_pair, w_const, w_via}
 use denote.Model.Placed.{view_places}

@@ -1,6 +1,6 @@
 use Rattle.std.proofs.Common.{sym, ◌∙◌}
 use Rattle.doc_server.specs.Stream.{stated}
-use Rattle.doc_server.proofs.Fronts.{front-range, front-stated, front-begins, front-fault}
+use Rattle.doc_server.proofs.Fronts.{front-begins, front-fault}
 use Rattle.doc_server.proofs.message.take.Goals as goal
 
 pub returns-in-Ok : goal.returns-in-Ok

@@ -1,4 +1,4 @@
-use Rattle.std.proofs.Common.{rules, arith, refl, ap, length-drop, length}
+use Rattle.std.proofs.Common.{rules, arith}
 use Rattle.doc_server.proofs.Conversation.{turns, breaks, stops, reads, room-reads, used-turns, short-at}
 use Rattle.doc_server.proofs.serve.converse.Goals as goal
 

@@ -3,7 +3,7 @@ use Rattle.std.proofs.Common.{◌≡◌, ℕ, ◌≤◌, inl, inr, List, [], ◌
 use Rattle.std.proofs.lemmas.List.{take_at, drop_at, take-append-drop, take-append-le}
 use Rattle.bson_wire.proofs.Documents.{same_spelling}
 use Rattle.doc_server.specs.declared.message.Message.{Message}
-use Rattle.doc_server.specs.Stream.{message, in_order, BeginsNone, stated, short, fault}
+use Rattle.doc_server.specs.Stream.{frames, message, in_order, BeginsNone, stated, short, fault}
 use Rattle.doc_server.proofs.Messages.{placed}
 use Rattle.doc_server.proofs.Fronts.{message-stated, stated-append, message-front}
 
@@ -27,7 +27,7 @@ front-one bytes one behind other behind' m n cut cut' is is' =
     let rest : behind ≡ behind' = sym (drop_at one behind (length one) refl) ∙ ap (drop (length one)) (sym cut ∙ cut') ∙ drop_at other behind' (length one) (ap length (sym same)) in
     (message-one other m n (subst (λ b. message b m) same is) is', rest)
 
-pub frames-one : (bytes : List ℕ) (ms ns : List Message) (rest rest' : List ℕ) → in_order bytes ms rest → BeginsNone rest → in_order bytes ns rest' → BeginsNone rest' → (ms ≡ ns) × (rest ≡ rest')
+frames-one : (bytes : List ℕ) (ms ns : List Message) (rest rest' : List ℕ) → in_order bytes ms rest → BeginsNone rest → in_order bytes ns rest' → BeginsNone rest' → (ms ≡ ns) × (rest ≡ rest')
 frames-one bytes [] [] rest rest' one none other none' = (refl, sym one ∙ other)
 frames-one bytes [] (n ∷ ns) rest rest' one none other none' = absurd (none n other.0 other.1 (sym one ∙ other.2) other.3)
 frames-one bytes (m ∷ ms) [] rest rest' one none other none' = absurd (none' m one.0 one.1 (sym other ∙ one.2) one.3)
@@ -35,6 +35,9 @@ frames-one bytes (m ∷ ms) (n ∷ ns) rest rest' one none other none' =
     let front = front-one bytes one.0 one.1 other.0 other.1 m n one.2 other.2 one.3 other.3 in
     let behind = frames-one one.1 ms ns rest rest' one.4 none (subst (λ b. in_order b ns rest') (sym front.1) other.4) none' in
     (ap (λ x. x ∷ ms) front.0 ∙ ap (λ xs. n ∷ xs) behind.0, behind.1)
+
+pub one-framing : (bytes : List ℕ) (ms ns : List Message) (rest rest' : List ℕ) → frames bytes ms rest → frames bytes ns rest' → (ms ≡ ns) × (rest ≡ rest')
+one-framing bytes ms ns rest rest' one other = frames-one bytes ms ns rest rest' one.order one.none_more other.order other.none_more
 
 -- ---- rests that no message begins
 

@@ -7,10 +7,10 @@ use Rattle.doc_server.specs.declared.why.Why.TheVariants.{Closed, Truncated, Bad
 use Rattle.doc_server.specs.Stream.{in_order, BeginsNone}
 use Rattle.doc_server.specs.Script.{Executed, messages, bytes_of}
 use Rattle.doc_server.specs.Talk.{Scene, Wrote, Ends, AtEnd, Talks}
-use Rattle.doc_server.specs.Program.{End, TellsAnswers, Spoke, IsCutOff, Shows, script_of, AnswersAll}
+use Rattle.doc_server.specs.Program.{End, TellsAnswers, Spoke, IsCutOff, Shows, script_of, Answered, AnswersAll}
 use Rattle.doc_server.proofs.Growth.{append-nil}
 use Rattle.doc_server.proofs.Scripts.{in_order-more}
-use Rattle.doc_server.proofs.Framing.{frames-one, none-empty, none-short, fault-more}
+use Rattle.doc_server.proofs.Framing.{none-empty, none-short, fault-more}
 
 -- what came after nothing is all
 tells-all : (old new : Option (List ℕ)) (all : List ℕ) → Tells old [] → Grows old new all → Tells new all
@@ -68,19 +68,18 @@ told-whole NoMemory rest told all shows tells = absurd shows
 
 answers-all : (input : Option (List ℕ)) (e : End) (all : List ℕ) (script : List Executed) (rest : List ℕ) → Shrinks input e.left all → AtEnd e.why e.left → Spoke e all script rest → AnswersAll input e
 answers-all None e all script rest came at_end spoke = tt
-answers-all (Some input) e all script rest came at_end spoke = λ left left_is ms rest' framed.
+answers-all (Some input) e all script rest came at_end spoke = λ left left_is.
     let input_is : input ≡ all ++ left = subst (λ l. Shrinks (Some input) l all) left_is came in
     let order : in_order input (messages script) (rest ++ left) = subst (λ b. in_order b (messages script) (rest ++ left)) (sym input_is) (in_order-more all left rest (messages script) spoke.order) in
     elim (shown e.why all rest left spoke.ends (subst (AtEnd e.why) left_is at_end)) [
       | inl cut ↦ inl cut
       | inr found ↦
-          let one = frames-one input (messages script) ms (rest ++ left) rest' order found.1 framed.order framed.none_more in
-          let same : script_of ms ≡ script = ap script_of (sym one.0) ∙ script-messages script in
-          inr (record {
-            end = subst (Shows e.why) one.1 found.0;
-            count = spoke.count ∙ sym (length-messages script) ∙ ap length one.0;
-            written = rw same (told-whole e.why (rest ++ left) e.written (bytes_of script) found.0 spoke.written);
-          })
+          let answered : Answered e (messages script) (rest ++ left) = record {
+            end = found.0;
+            count = spoke.count ∙ sym (length-messages script);
+            written = rw script-messages (told-whole e.why (rest ++ left) e.written (bytes_of script) found.0 spoke.written);
+          } in
+          inr (messages script, rest ++ left, record { order = order; none_more = found.1 }, answered)
     ]
 
 -- the same of what a served link tells

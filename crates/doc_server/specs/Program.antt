@@ -32,6 +32,10 @@ pub record End : Type 0 where
   pub why : Why
   pub commands : ℕ
 
+abbrev pub seen : Option (List ℕ) → Option (List ℕ) → Option (List ℕ) → Why → ℕ → End
+seen taken left written why commands =
+    record { taken = taken; left = left; written = written; why = why; commands = commands }
+
 -- what is told to be written, of all that is to be written
 abbrev pub TellsAnswers : Why → Option (List ℕ) → List ℕ → Type 0
 TellsAnswers WriteFault told all = (sent : ℕ) × Tells told (take sent all)
@@ -76,7 +80,7 @@ pub record Answered (e : End) (ms : List Message) (rest : List ℕ) : Type 0 whe
 -- Of a whole input that is told, with what is left of it: its messages were answered, unless the connection was cut off.
 abbrev pub AnswersAll : Option (List ℕ) → End → Type 0
 AnswersAll None e = Unit {0}
-AnswersAll (Some input) e = (left : List ℕ) → e.left ≡ Some left → (ms : List Message) (rest : List ℕ) → frames input ms rest → IsCutOff e.why ⊎ Answered e ms rest
+AnswersAll (Some input) e = (left : List ℕ) → e.left ≡ Some left → IsCutOff e.why ⊎ ((ms : List Message) × (rest : List ℕ) × frames input ms rest × Answered e ms rest)
 
 -- the statuses that come where no call of the console can fail: its input is answered, cut, bad or too long, or memory ran out
 abbrev pub IsSureStatus : ℕ → Type 0

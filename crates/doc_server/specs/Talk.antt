@@ -40,6 +40,9 @@ pub record Scene : Type 0 where
   pub left : Option (List ℕ)
   pub wrote : Option (List ℕ)
 
+abbrev pub scene : Option (List ℕ) → Option (List ℕ) → Option (List ℕ) → Scene
+scene took left wrote = record { took = took; left = left; wrote = wrote }
+
 -- a connection, from where it began to where it stands
 pub record Talk (old new : Scene) (why : Why) (commands : ℕ) (all : List ℕ) (script : List Executed) (rest : List ℕ) : Type 0 where
   pub taken : Grows old.took new.took all

@@ -21,7 +21,8 @@ const COMMAND_NOT_FOUND: Refusal = Refusal {
 };
 
 fn add(alloc: Global, doc: &mut Document, name: &str, value: Value) -> Result<(), NoMemory>
-    ensures { OnOk result (doc.new ≡ doc.old ++ (record { name = name.now; value = value }) ∷ []) }
+    ensures { OnOk result (doc.new
+        ≡ doc.old ++ (record { name = name.now; value = value }) ∷ []) }
 {
     let name = Text::of(alloc, name)?;
     match doc.push(name, value) {
@@ -39,7 +40,8 @@ fn ok_reply(alloc: Global) -> Result<Document, NoMemory>
 }
 
 fn error_reply(alloc: Global, refusal: &Refusal) -> Result<Document, NoMemory>
-    ensures { IfOk result (λ doc. doc ≡ error_document refusal.now.code refusal.now.code_name.now refusal.now.sentence.now) }
+    ensures { IfOk result (λ doc. doc
+        ≡ error_document refusal.now.code refusal.now.code_name.now refusal.now.sentence.now) }
 {
     let mut doc = Document::new(alloc);
     add(alloc, &mut doc, "ok", Value::Int(0))?;

@@ -11,7 +11,7 @@ mod reply;
 mod serve;
 mod why;
 
-pub use laws::a_console_that_cannot_fail_has_no_fault;
+pub use laws::{a_console_that_cannot_fail_has_no_fault, a_stream_has_one_framing};
 pub use plain::answers_to;
 pub use program::{Finished, ferret};
 pub use serve::{Ended, serve_link};

@@ -29,8 +29,10 @@ pub(crate) enum Taken {
     NoMemory,
 }
 
-const OP_MSG: u32 = 2013;
+/// The one opcode that is spoken.
+pub(crate) const OP_MSG: u32 = 2013;
 
+/// The fewest and the most bytes of a message.
 const LEAST: u32 = 16;
 
 const MOST: u32 = 48_000_000;
@@ -55,7 +57,8 @@ fn whole_message(alloc: Global, whole: &[u8]) -> Result<Message, ReadRefused>
     requires stated { stated whole.now ≡ length whole.now }
     ensures found { IfOk result (λ found. message whole.now found) }
     ensures only { (m : Asked) → message whole.now m
-        → MatchResult result (λ found. found ≡ m) (λ refused. refused ≡ ReadRefused.NoMemory) }
+        → MatchResult result (λ found. found ≡ m)
+        (λ refused. refused ≡ ReadRefused.NoMemory) }
 {
     if whole.len() < 21 {
         return Err(ReadRefused::Malformed);

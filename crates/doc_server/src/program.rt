@@ -1,6 +1,6 @@
 ghost use Rattle.std.specs.Prelude.{◌≡◌, false, map, is_some, string_bytes, IfSome, IfNone};
 ghost use Rattle.doc_server.specs.Talk.{Faults};
-ghost use Rattle.doc_server.specs.Program.{is_pipe, status_of, Spoken, AnswersAll};
+ghost use Rattle.doc_server.specs.Program.{is_pipe, status_of, seen, Spoken, AnswersAll};
 
 use crate::serve::{Ended, serve_link};
 use crate::why::Why;
@@ -10,8 +10,9 @@ use std::alloc::Global;
 /// What is left when the program ends.
 #[derive(Debug, Drop)]
 pub struct Finished<C> {
-    /// 0: the input ended behind a whole message; 1: bad words; 4: a write failed; 6: the input ended
-    /// within a message; 7: a bad message; 8: a read failed; 9: want of memory; 10: the input is too long.
+    /// 0: the input ended behind a whole message; 1: bad words; 4: a write failed; 6: the input
+    /// ended within a message; 7: a bad message; 8: a read failed; 9: want of memory; 10: the input
+    /// is too long.
     pub status: u8,
     /// The console's connection, where the words asked for it.
     pub console: Option<Ended<C>>,
@@ -57,22 +58,13 @@ pub fn ferret<W: World>(alloc: Global, words: &[String], world: &mut W) -> Finis
         0 (W.Console.read_faults e.link) 0 (W.Console.write_faults e.link)) }
 
     // What came are messages and a rest, and what was written are the answers.
-    ensures spoken { IfSome result.console (λ e. Spoken (record {
-      taken = W.Console.taken e.link;
-      left = W.Console.left e.link;
-      written = W.Console.written e.link;
-      why = e.why;
-      commands = e.commands;
-    })) }
+    ensures spoken { IfSome result.console (λ e. Spoken (seen (W.Console.taken e.link)
+        (W.Console.left e.link) (W.Console.written e.link) e.why e.commands)) }
 
     // Every message of the whole input is answered, and the end is as its rest shows.
-    ensures whole { IfSome result.console (λ e. AnswersAll (W.input world.old) (record {
-      taken = W.Console.taken e.link;
-      left = W.Console.left e.link;
-      written = W.Console.written e.link;
-      why = e.why;
-      commands = e.commands;
-    })) }
+    ensures whole { IfSome result.console (λ e. AnswersAll (W.input world.old)
+        (seen (W.Console.taken e.link) (W.Console.left e.link) (W.Console.written e.link)
+        e.why e.commands)) }
 {
     if is_pipe(words) {
         let ended = serve_link(alloc, world.console(), 0, 0);

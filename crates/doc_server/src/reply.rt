@@ -2,12 +2,11 @@ ghost use Rattle.std.specs.Prelude.{◌≡◌, ◌+◌, ◌≤◌, ◌^◌, ◌%
 ghost use Rattle.bson_wire.specs.Spelling.{IsFlat, spell};
 ghost use Rattle.doc_server.specs.Reply.{header, reply};
 
+use crate::message::OP_MSG;
 use bson_values::{Bytes, Document, NoMemory};
 use bson_wire::write;
 use byteorder::{ByteOrder, LittleEndian};
 use std::alloc::Global;
-
-const OP_MSG: u32 = 2013;
 
 /// The bytes of a reply before its document, which has `size` bytes.
 fn head(number: u32, request: i32, size: usize) -> [u8; 21]

@@ -2,7 +2,7 @@ ghost use Rattle.std.specs.Prelude.{◌≡◌, ◌≤◌, ◌<◌, ◌==◌, ◌
 ghost use Rattle.outside.specs.Told.{Grows};
 ghost use Rattle.outside.specs.Causes.{HasCause};
 ghost use Rattle.doc_server.specs.Answers.{answer};
-ghost use Rattle.doc_server.specs.Talk.{Talks, AtEnd, Faults};
+ghost use Rattle.doc_server.specs.Talk.{scene, Talks, AtEnd, Faults};
 ghost use Rattle.doc_server.specs.Steps.{Fetches, Moves, Answers, end_of, fault_of};
 
 use crate::answers::answer;
@@ -33,7 +33,7 @@ const PIECE: usize = 65_536;
 /// The most bytes that are read of one connection.
 const LIMIT: u64 = 1 << 40;
 
-/// How a conversation ended, and how many messages were executed.
+/// How a conversation ended, and how many messages were executed in it.
 #[derive(Drop)]
 struct Said {
     why: Why,
@@ -54,7 +54,8 @@ fn write_all<L: Link>(link: &mut L, bytes: &[u8]) -> Result<(), Failed>
     ensures left { L.left link.new ≡ L.left link.old }
     ensures read_faults { L.read_faults link.new ≡ L.read_faults link.old }
     ensures ok { OnOk result (Grows (L.written link.old) (L.written link.new) bytes.now) }
-    ensures err { OnErr result ((sent : ℕ) × Grows (L.written link.old) (L.written link.new) (take sent bytes.now)) }
+    ensures err { OnErr result ((sent : ℕ)
+        × Grows (L.written link.old) (L.written link.new) (take sent bytes.now)) }
     ensures cause { HasCause (L.write_faults link.old) (L.write_faults link.new) result }
 {
     let mut sent = 0;
@@ -76,7 +77,8 @@ fn at_end(len: usize) -> Why
     }
 }
 
-/// Reads one piece more to the end of the buffer, and answers how many bytes came. `count` came before.
+/// Reads one piece more to the end of the buffer, and answers how many bytes came. So many as
+/// `count` came before.
 fn fetch<L: Link>(
     link: &mut L,
     buffer: &mut Vec<u8>,
@@ -86,11 +88,12 @@ fn fetch<L: Link>(
     requires room { 0 < length piece.old }
     requires limit { count ≤ 2 ^ 40 }
     ensures fetches { (piece : List ℕ) × Moves
-        (record { took = L.taken link.old; left = L.left link.old; wrote = L.written link.old })
-        (record { took = L.taken link.new; left = L.left link.new; wrote = L.written link.new }) piece
+        (scene (L.taken link.old) (L.left link.old) (L.written link.old))
+        (scene (L.taken link.new) (L.left link.new) (L.written link.new)) piece
         × Fetches result piece count buffer.old.items buffer.new.items }
     ensures end { IfErr result (λ why. AtEnd why (L.left link.new)) }
-    ensures faults { Faults (end_of result) (L.read_faults link.old) (L.read_faults link.new) (L.write_faults link.old) (L.write_faults link.new) }
+    ensures faults { Faults (end_of result) (L.read_faults link.old) (L.read_faults link.new)
+        (L.write_faults link.old) (L.write_faults link.new) }
 {
     if count >= LIMIT {
         return Err(Why::Long);
@@ -120,11 +123,14 @@ enum Replied {
 
 /// Makes the answer to a message that comes after so many replies, and writes it.
 fn reply_to<L: Link>(alloc: Global, link: &mut L, replies: u64, message: &Message) -> Replied
-    ensures answers { Answers result (L.written link.old) (L.written link.new) (answer replies message.now) }
+    ensures answers { Answers result (L.written link.old) (L.written link.new)
+        (answer replies message.now) }
     ensures taken { L.taken link.new ≡ L.taken link.old }
     ensures left { L.left link.new ≡ L.left link.old }
-    ensures faults { Faults (fault_of result) (L.read_faults link.old) (L.read_faults link.new) (L.write_faults link.old) (L.write_faults link.new) }
+    ensures faults { Faults (fault_of result) (L.read_faults link.old) (L.read_faults link.new)
+        (L.write_faults link.old) (L.write_faults link.new) }
 {
+    // No command needs it yet.
     let _moment = link.now();
     let Ok(bytes) = answer(alloc, replies, message) else {
         return Replied::NoMemory;
@@ -137,10 +143,12 @@ fn reply_to<L: Link>(alloc: Global, link: &mut L, replies: u64, message: &Messag
 
 /// Answers each message as soon as it is whole, until the link or the memory ends it.
 fn converse<L: Link>(alloc: Global, link: &mut L) -> Said
-    ensures talks { Talks (record { took = L.taken link.old; left = L.left link.old; wrote = L.written link.old })
-        (record { took = L.taken link.new; left = L.left link.new; wrote = L.written link.new }) result.why result.commands }
+    ensures talks { Talks (scene (L.taken link.old) (L.left link.old) (L.written link.old))
+        (scene (L.taken link.new) (L.left link.new) (L.written link.new))
+        result.why result.commands }
     ensures end { AtEnd result.why (L.left link.new) }
-    ensures faults { Faults result.why (L.read_faults link.old) (L.read_faults link.new) (L.write_faults link.old) (L.write_faults link.new) }
+    ensures faults { Faults result.why (L.read_faults link.old) (L.read_faults link.new)
+        (L.write_faults link.old) (L.write_faults link.new) }
 {
     let mut buffer = Vec::new(alloc);
     let mut used = 0;
@@ -177,10 +185,12 @@ fn converse<L: Link>(alloc: Global, link: &mut L) -> Said
 /// Serves one connection to its end, as the `number`th of the worker `seat`.
 pub fn serve_link<L: Link>(alloc: Global, mut link: L, seat: u64, number: u64) -> Ended<L>
     ensures names { (result.seat ≡ seat) × (result.number ≡ number) }
-    ensures talks { Talks (record { took = L.taken link; left = L.left link; wrote = L.written link })
-        (record { took = L.taken result.link; left = L.left result.link; wrote = L.written result.link }) result.why result.commands }
+    ensures talks { Talks (scene (L.taken link) (L.left link) (L.written link))
+        (scene (L.taken result.link) (L.left result.link) (L.written result.link))
+        result.why result.commands }
     ensures end { AtEnd result.why (L.left result.link) }
-    ensures faults { Faults result.why (L.read_faults link) (L.read_faults result.link) (L.write_faults link) (L.write_faults result.link) }
+    ensures faults { Faults result.why (L.read_faults link) (L.read_faults result.link)
+        (L.write_faults link) (L.write_faults result.link) }
     ensures lost { result.lost ≡ 0 }
 {
     let said = converse(alloc, &mut link);

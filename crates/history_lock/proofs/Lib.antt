@@ -1,0 +1,10 @@
+pub mod Beginnings
+pub mod Totals
+pub mod Owning
+pub mod Histories
+pub mod Queue
+pub mod Keeping
+pub mod Turns
+pub mod Calls
+pub mod Parts
+pub mod Closes

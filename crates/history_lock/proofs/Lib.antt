@@ -8,3 +8,4 @@ pub mod Turns
 pub mod Calls
 pub mod Parts
 pub mod Closes
+pub mod Crossing

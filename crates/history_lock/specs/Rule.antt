@@ -23,6 +23,9 @@ pub record Meaning (O S C R : Type 0) : Type 1 where
   pub allows : S → C → R → ℕ → ℕ → Type 0
   pub next : S → C → R → S
 
+abbrev pub meaning : {O S C R : Type 0} → (O → S) → (O → ℕ) → (S → C → R → ℕ → ℕ → Type 0) → (S → C → R → S) → Meaning O S C R
+meaning state faults allows next = record { state = state; faults = faults; allows = allows; next = next }
+
 -- f of each, added up
 abbrev pub total : {X : Type 0} → (X → ℕ) → List X → ℕ
 total f [] = 0

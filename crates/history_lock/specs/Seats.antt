@@ -46,6 +46,13 @@ module _ {S C R : Type 0} where
   abbrev pub moved : Sitting S C R → Bool → View C R → Sitting S C R
   moved seat held at = record seat { held = held; at = at }
 
+  -- the seat is of this history and in no turn, and has these parts and this view
+  pub record Seated (history : Beginning S) (parts : ℕ) (at : View C R) (seat : Sitting S C R) : Type 0 where
+    pub history_is : seat.history ≡ history
+    pub parts_is : seat.parts ≡ parts
+    pub free : seat.held ≡ false
+    pub at_is : seat.at ≡ at
+
 -- the lock has three words and one slot
 abbrev pub IsLock : TableId → Type 0
 IsLock z = (z.words ≡ 3) × (z.slots ≡ 1)

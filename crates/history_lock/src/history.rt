@@ -2,15 +2,17 @@ ghost use Rattle.std.specs.Prelude.{◌≡◌, ◌⊎◌, ◌+◌, ◌-◌, ◌<
 ghost use Rattle.history_lock.specs.Logged.{Joined, Logged, LoggedNext, Longer, newcomer, nothing};
 ghost use Rattle.history_lock.specs.Legal.{count_after, legal, replay};
 ghost use Rattle.history_lock.specs.Places.{AllPlaces};
-ghost use Rattle.history_lock.specs.Seats.{moved, turn_of};
+ghost use Rattle.history_lock.specs.Seats.{Seated, moved, turn_of};
 
 use crate::closed::{Closed, Past};
 use crate::entry::Who;
 use crate::object::Object;
 use crate::refused::NoMemory;
-use crate::rule::{Held, Pass, Start};
+use crate::rule::{Held, Start};
 use crate::seat::{Seat, Turn};
-use crate::steps::{SERVING, Shelf, cut, make_call, merge, take_apart, take_turn, take_turn_alone};
+use crate::steps::{
+    Shelf, cut, make_call, merge, pass_turn, take_apart, take_turn, take_turn_alone,
+};
 use atomic_table::{Refused, Table};
 use std::alloc::{AllocFailed, Global};
 use std::marker::Model;
@@ -26,12 +28,12 @@ pub struct History<O: Object> {
 
 impl<O: Object> Model for History<O> {
     ghost use Rattle.std.specs.Prelude.{◌≡◌};
-    ghost use Rattle.history_lock.specs.Rule.{origin_of};
+    ghost use Rattle.history_lock.specs.Rule.{meaning, origin_of};
     ghost use Rattle.history_lock.specs.Seats.{Beginning, IsLock, beginning};
 
     ghost Value = { Beginning O.State };
 
-    ghost view = { λ h. beginning h.table.shared.table_id (origin_of (record { state = O.state; faults = O.faults; allows = O.allows; next = O.next }) h.start) };
+    ghost view = { λ h. beginning h.table.shared.table_id (origin_of (meaning O.state O.faults O.allows O.next) h.start) };
 
     ghost invariant = { λ h. (h.table.shared.key ≡ h.start) × IsLock h.table.shared.table_id };
 }
@@ -40,8 +42,10 @@ impl<O: Object> History<O> {
     /// A history with no call, and a seat that has all of its parts. Each thread needs a seat with one part at least.
     pub fn new(alloc: Global, object: O, parts: u64) -> Result<(History<O>, Seat<O>), O>
         requires { 0 < parts }
-        ensures history { IfOk result (λ made. (made.0.opening ≡ O.state object) × (made.0.first ≡ O.faults object) × (made.0.parts ≡ parts)) }
-        ensures seat { IfOk result (λ made. (made.1.history ≡ made.0) × (made.1.parts ≡ parts) × (made.1.held ≡ false) × (made.1.at ≡ nothing)) }
+        ensures opening { IfOk result (λ made. made.0.opening ≡ O.state object) }
+        ensures first { IfOk result (λ made. made.0.first ≡ O.faults object) }
+        ensures parts { IfOk result (λ made. made.0.parts ≡ parts) }
+        ensures seat { IfOk result (λ made. Seated made.0 parts nothing made.1) }
         ensures refused { IfErr result (λ back. back ≡ object) }
     {
         let start = Start {
@@ -103,7 +107,6 @@ impl<O: Object> History<O> {
         ensures logged { LoggedNext seat.old.at seat.new.at who call result }
         ensures legal { legal O.allows O.next self.now.opening self.now.first seat.new.at.seen }
     {
-        let _ = turn;
         make_call(&self.table.shared, &mut seat.place, &seat.start, who, call)
     }
 
@@ -113,10 +116,8 @@ impl<O: Object> History<O> {
         requires turn { (seat.old.held ≡ true) × (turn ≡ turn_of seat.old) }
         ensures { seat.new ≡ moved seat.old false seat.old.at }
     {
-        self.table
-            .shared
-            .fetch_add::<Pass>(&mut seat.place, SERVING, 1);
-        self.table.shared.wake_all(SERVING);
+        pass_turn(&self.table.shared, &mut seat.place);
+        drop(turn);
     }
 
     /// Makes a call in a turn of its own.
@@ -154,7 +155,7 @@ impl<O: Object> History<O> {
         requires free { seat.old.held ≡ false }
         requires parts { (0 < parts) × (parts < seat.old.parts) }
         ensures kept { OnOk result (seat.new ≡ record seat.old { parts = seat.old.parts - parts }) }
-        ensures split { IfOk result (λ new. (new.history ≡ self.now) × (new.parts ≡ parts) × (new.held ≡ false) × (new.at ≡ newcomer seat.old.at)) }
+        ensures split { IfOk result (Seated self.now parts (newcomer seat.old.at)) }
         ensures refused { OnErr result (seat.new ≡ seat.old) }
     {
         let place = cut(&self.table.shared, &mut seat.place, parts);

@@ -10,6 +10,8 @@ mod rule;
 mod seat;
 mod solo;
 mod steps;
+#[cfg(test)]
+mod tests;
 mod view;
 
 pub use closed::{Closed, Past};

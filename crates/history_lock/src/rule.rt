@@ -68,12 +68,12 @@ pub struct Law;
 
 impl<O: Object> TableRule<Held<O, O::Call, O::Reply>, Known<O::State, O::Call, O::Reply>, Start<O>>
     for Law {
-    ghost use Rattle.history_lock.specs.Rule.{Kept, origin_of};
+    ghost use Rattle.history_lock.specs.Rule.{Kept, meaning, origin_of};
     ghost use Rattle.history_lock.specs.Steps.{newly};
 
-    ghost holds = { λ start. Kept (record { state = O.state; faults = O.faults; allows = O.allows; next = O.next }) (origin_of (record { state = O.state; faults = O.faults; allows = O.allows; next = O.next }) start) };
+    ghost holds = { λ start. Kept (meaning O.state O.faults O.allows O.next) (origin_of (meaning O.state O.faults O.allows O.next) start) };
 
-    ghost first = { λ start. newly (origin_of (record { state = O.state; faults = O.faults; allows = O.allows; next = O.next }) start) };
+    ghost first = { λ start. newly (origin_of (meaning O.state O.faults O.allows O.next) start) };
 }
 
 /// Draws a ticket.
@@ -89,9 +89,10 @@ impl<O, S, C, R> Play<Held<O, C, R>, Known<S, C, R>> for Draw {
 pub struct Look;
 
 impl<O: Object> Play<Held<O, O::Call, O::Reply>, Known<O::State, O::Call, O::Reply>> for Look {
+    ghost use Rattle.history_lock.specs.Rule.{meaning};
     ghost use Rattle.history_lock.specs.Steps.{looks};
 
-    ghost then = { looks (record { state = O.state; faults = O.faults; allows = O.allows; next = O.next }) };
+    ghost then = { looks (meaning O.state O.faults O.allows O.next) };
 }
 
 /// Logs the call of the slot's note.

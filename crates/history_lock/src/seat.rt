@@ -16,14 +16,14 @@ pub struct Seat<O: Object> {
 }
 
 impl<O: Object> Model for Seat<O> {
-    ghost use Rattle.history_lock.specs.Rule.{origin_of};
+    ghost use Rattle.history_lock.specs.Rule.{meaning, origin_of};
     ghost use Rattle.history_lock.specs.Seats.{Sitting, beginning, is_turn, Sits};
 
     ghost Value = { Sitting O.State O.Call O.Reply };
 
-    ghost view = { λ s. record { history = beginning s.place.table_id (origin_of (record { state = O.state; faults = O.faults; allows = O.allows; next = O.next }) s.start.value); number = s.place.id; parts = s.place.me.0.parts; held = is_turn s.place.me.0.stage; at = s.place.me.0.at } };
+    ghost view = { λ s. record { history = beginning s.place.table_id (origin_of (meaning O.state O.faults O.allows O.next) s.start.value); number = s.place.id; parts = s.place.me.0.parts; held = is_turn s.place.me.0.stage; at = s.place.me.0.at } };
 
-    ghost invariant = { λ s. Sits (record { state = O.state; faults = O.faults; allows = O.allows; next = O.next }) (origin_of (record { state = O.state; faults = O.faults; allows = O.allows; next = O.next }) s.start.value) s.place.me };
+    ghost invariant = { λ s. Sits (meaning O.state O.faults O.allows O.next) (origin_of (meaning O.state O.faults O.allows O.next) s.start.value) s.place.me };
 }
 
 /// The right to log, which no other seat has until the turn ends.

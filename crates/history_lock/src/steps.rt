@@ -4,12 +4,12 @@ ghost use mathlib.Core.List.{IsPrefix};
 ghost use Rattle.history_lock.specs.declared.rule.Held.TheVariants.{Here, Taken};
 ghost use Rattle.history_lock.specs.declared.rule.Stage.TheVariants.{Free};
 ghost use Rattle.history_lock.specs.Seats.{Called, IsLock, Sits, is_turn};
-ghost use Rattle.history_lock.specs.Rule.{origin_of};
+ghost use Rattle.history_lock.specs.Rule.{meaning, origin_of};
 ghost use Rattle.history_lock.specs.Steps.{Ends, Served, leaving, longer, merged, shorter, staying};
 
 use crate::entry::Who;
 use crate::object::Object;
-use crate::rule::{Cut, Draw, Held, Known, Law, Learn, Log, Look, Merge, Note, Offer, Start};
+use crate::rule::{Cut, Draw, Held, Known, Law, Learn, Log, Look, Merge, Note, Offer, Pass, Start};
 use crate::seat::Place;
 use atomic_table::{Shared, Table};
 use std::alloc::Global;
@@ -49,7 +49,7 @@ pub(crate) fn take_turn<O: Object, R: Wait>(rt: &R, top: &Top<O>, place: &mut Pl
     requires sits { (key : _) × (place.old.me.0.origin ≡ Some key) × (0 < place.old.me.0.parts) }
     requires free { (place.old.me.0.stage ≡ Free) × (place.old.me.1 ≡ []) }
     ensures same { (place.new.table_id ≡ place.old.table_id) × (place.new.id ≡ place.old.id) }
-    ensures served { (t : ℕ) × Served (record { state = O.state; faults = O.faults; allows = O.allows; next = O.next }) t place.old.me place.new.me }
+    ensures served { (t : ℕ) × Served (meaning O.state O.faults O.allows O.next) t place.old.me place.new.me }
 {
     let ticket = top.fetch_add::<Draw>(place, TICKETS, 1);
     for _ in rt.forever() {
@@ -68,7 +68,7 @@ pub(crate) fn take_turn_alone<O: Object>(top: &Top<O>, place: &mut Place<O>)
     requires sits { (key : _) × (place.old.me.0.origin ≡ Some key) × (0 < place.old.me.0.parts) × (place.old.me.0.parts ≡ key.parts) }
     requires free { (place.old.me.0.stage ≡ Free) × (place.old.me.1 ≡ []) }
     ensures same { (place.new.table_id ≡ place.old.table_id) × (place.new.id ≡ place.old.id) }
-    ensures served { (t : ℕ) × Served (record { state = O.state; faults = O.faults; allows = O.allows; next = O.next }) t place.old.me place.new.me }
+    ensures served { (t : ℕ) × Served (meaning O.state O.faults O.allows O.next) t place.old.me place.new.me }
     ensures seen { place.new.me.0.at ≡ place.old.me.0.at }
 {
     top.fetch_add::<Draw>(place, TICKETS, 1);
@@ -108,13 +108,12 @@ pub(crate) fn make_call<O: Object>(
     call: O::Call,
 ) -> O::Reply
     requires table { (place.old.table_id ≡ top.now.table_id) × IsLock top.now.table_id }
-    requires sits { Sits (record { state = O.state; faults = O.faults; allows = O.allows; next = O.next }) (origin_of (record { state = O.state; faults = O.faults; allows = O.allows; next = O.next }) start.now.value) place.old.me }
+    requires sits { Sits (meaning O.state O.faults O.allows O.next) (origin_of (meaning O.state O.faults O.allows O.next) start.now.value) place.old.me }
     requires turn { is_turn place.old.me.0.stage ≡ true }
     requires may { O.accepts call ≡ true }
     ensures same { (place.new.table_id ≡ place.old.table_id) × (place.new.id ≡ place.old.id) }
-    ensures called { Called (record { state = O.state; faults = O.faults; allows = O.allows; next = O.next }) (origin_of (record { state = O.state; faults = O.faults; allows = O.allows; next = O.next }) start.now.value) place.old.me place.new.me who call result }
+    ensures called { Called (meaning O.state O.faults O.allows O.next) (origin_of (meaning O.state O.faults O.allows O.next) start.now.value) place.old.me place.new.me who call result }
 {
-    let _ = start;
     let asked = Snapshot::of(&call);
     let mut object = take_object(top, place);
     let before = Snapshot::of(&object);
@@ -130,6 +129,21 @@ pub(crate) fn make_call<O: Object>(
     top.fetch_add::<Log>(place, COUNT, 1);
     put(top, place, Held::Here(object));
     reply
+}
+
+/// Gives the slot back with the object in it, and serves the next ticket.
+pub(crate) fn pass_turn<O: Object>(top: &Top<O>, place: &mut Place<O>)
+    requires table { (place.old.table_id ≡ top.now.table_id) × IsLock top.now.table_id }
+    requires sits { (origin : _) × Sits (meaning O.state O.faults O.allows O.next) origin place.old.me }
+    requires turn { is_turn place.old.me.0.stage ≡ true }
+    ensures same { (place.new.table_id ≡ place.old.table_id) × (place.new.id ≡ place.old.id) }
+    ensures passed { place.new.me ≡ (record place.old.me.0 { stage = Free }, []) }
+{
+    let served = top.fetch_add::<Pass>(place, SERVING, 1);
+    // A seat draws its ticket before it looks, so one that is not seen here finds the ticket that is served now.
+    if top.peek(TICKETS) != served.wrapping_add(1) {
+        top.wake_all(SERVING);
+    }
 }
 
 /// Moves so many parts to a new seat. A split has no number of its own, so an exchange that changes nothing says it first.
@@ -162,9 +176,8 @@ pub(crate) fn take_apart<O: Object>(table: Shelf<O>, place: Place<O>, start: &St
     requires table { (place.table_id ≡ table.shared.table_id) × IsLock table.shared.table_id × (table.shared.key ≡ start.now) }
     requires free { place.me.0.stage ≡ Free }
     requires all { place.me.0.parts ≡ start.now.parts }
-    ensures { Ends (record { state = O.state; faults = O.faults; allows = O.allows; next = O.next }) (origin_of (record { state = O.state; faults = O.faults; allows = O.allows; next = O.next }) start.now) place.me.0.at result.0 result.1 }
+    ensures { Ends (meaning O.state O.faults O.allows O.next) (origin_of (meaning O.state O.faults O.allows O.next) start.now) place.me.0.at result.0 result.1 }
 {
-    let _ = start;
     let mut closed = table.close_with(place);
     let count = closed.word(COUNT);
     let Held::Here(object) = closed.take(SLOT) else {

@@ -16,7 +16,7 @@ use Rattle.history_lock.specs.Rule.{Meaning, Kept, StandsAt}
 use Rattle.history_lock.specs.Steps.{entry_of, logged, logs}
 use Rattle.history_lock.specs.Seats.{Sits, HasSlot, Called}
 use Rattle.history_lock.proofs.Histories.{replay-append, count_after-append, legal-more}
-use Rattle.history_lock.proofs.Keeping.{logs-allowed}
+use Rattle.history_lock.proofs.Logging.{logs-allowed}
 use Rattle.history_lock.proofs.Turns.{InTurn}
 
 module _ {O S C R : Type 0} (m : Meaning O S C R) where

@@ -12,7 +12,7 @@ use Rattle.history_lock.specs.declared.rule.Known.{Known}
 use Rattle.history_lock.specs.Logged.{Joined}
 use Rattle.history_lock.specs.Rule.{Meaning, Kept}
 use Rattle.history_lock.specs.Steps.{longer, shorter, staying, leaving}
-use Rattle.history_lock.proofs.Keeping.{splits-allowed}
+use Rattle.history_lock.proofs.Parting.{splits-allowed}
 
 module _ {O S C R : Type 0} (m : Meaning O S C R) (key : Origin S) where
   -- once so many parts are offered, the seat may be cut

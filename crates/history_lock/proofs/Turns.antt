@@ -11,7 +11,7 @@ use Rattle.history_lock.specs.declared.rule.Stage.{Stage}
 use Rattle.history_lock.specs.Rule.{Meaning, Kept, StandsAt}
 use Rattle.history_lock.specs.Seats.{Sits, HasSlot, is_turn}
 use Rattle.history_lock.specs.Steps.{Served, looks}
-use Rattle.history_lock.proofs.Keeping.{looks-allowed}
+use Rattle.history_lock.proofs.Waiting.{looks-allowed}
 
 module _ {O S C R : Type 0} where
   -- the seat waits with the ticket t, and has otherwise not changed

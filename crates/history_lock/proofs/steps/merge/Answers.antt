@@ -1,5 +1,6 @@
 use Rattle.std.proofs.Common.{rules, arith}
-use Rattle.history_lock.proofs.Keeping.{joins-allowed, learns-allowed}
+use Rattle.history_lock.proofs.Keeping.{learns-allowed}
+use Rattle.history_lock.proofs.Parting.{joins-allowed}
 use Rattle.history_lock.proofs.steps.merge.Goals as goal
 
 pub join_seat-requires : goal.join_seat-requires

@@ -1,5 +1,5 @@
 use Rattle.std.proofs.Common.{arith, rules}
-use Rattle.history_lock.proofs.Keeping.{passes-allowed}
+use Rattle.history_lock.proofs.Passing.{passes-allowed}
 use Rattle.history_lock.proofs.Turns.{in-turn}
 use Rattle.history_lock.proofs.steps.pass_turn.Goals as goal
 

@@ -1,5 +1,5 @@
 use Rattle.std.proofs.Common.{◌∙◌, arith, rules}
-use Rattle.history_lock.proofs.Keeping.{draws-allowed}
+use Rattle.history_lock.proofs.Waiting.{draws-allowed}
 use Rattle.history_lock.proofs.Turns.{may-look, has-turn}
 use Rattle.history_lock.proofs.steps.take_turn.Goals as goal
 

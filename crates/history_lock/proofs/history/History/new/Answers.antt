@@ -1,6 +1,6 @@
 use Rattle.std.proofs.Common.{ap, ◌≡◌, [], ◌∷◌, rules, arith}
 use Rattle.history_lock.specs.declared.rule.Held.TheVariants.{Here}
-use Rattle.history_lock.proofs.Keeping.{opens}
+use Rattle.history_lock.proofs.Closes.{opens}
 use Rattle.history_lock.proofs.history.History.new.Goals as goal
 
 pub new-requires : goal.new-requires

@@ -1,17 +1,15 @@
 -- A call that a seat makes in its turn.
-use Rattle.std.proofs.Common.{◌≡◌, ℕ, ◌+◌, ◌%◌, ◌^◌, List, [], ◌∷◌, ◌++◌, refl, ap, sym, ◌∙◌, subst}
+use Rattle.std.proofs.Common.{◌≡◌, ℕ, ◌+◌, ◌%◌, ◌^◌, [], ◌∷◌, ◌++◌, refl, ap, sym, ◌∙◌, subst}
 use mathlib.Core.Option.{none}
-use Rattle.atomic_table.specs.Table.{Me, Step, step, Allows}
+use Rattle.atomic_table.specs.Table.{Me, step, Allows}
 use Rattle.history_lock.specs.declared.entry.Entry.{Entry}
 use Rattle.history_lock.specs.declared.view.View.{View}
 use Rattle.history_lock.specs.declared.rule.Origin.{Origin}
 use Rattle.history_lock.specs.declared.rule.Note.{Note}
 use Rattle.history_lock.specs.declared.rule.Held.{Held}
 use Rattle.history_lock.specs.declared.rule.Held.TheVariants.{Here, Made}
-use Rattle.history_lock.specs.declared.rule.Stage.{Stage}
-use Rattle.history_lock.specs.declared.rule.Stage.TheVariants.{Serves}
 use Rattle.history_lock.specs.declared.rule.Known.{Known}
-use Rattle.history_lock.specs.Legal.{replay, count_after, legal}
+use Rattle.history_lock.specs.Legal.{replay, legal}
 use Rattle.history_lock.specs.Rule.{Meaning, Kept, StandsAt}
 use Rattle.history_lock.specs.Steps.{entry_of, logged, logs}
 use Rattle.history_lock.specs.Seats.{Sits, HasSlot, Called}

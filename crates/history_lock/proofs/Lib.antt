@@ -1,4 +1,4 @@
-pub mod Tests
+pub mod Booleans
 pub mod Whos
 pub mod Picks
 pub mod Beginnings

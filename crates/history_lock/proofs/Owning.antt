@@ -1,9 +1,9 @@
 -- A seat's own places.
-use Rattle.std.proofs.Common.{◌≡◌, ℕ, zero, suc, ◌+◌, ◌<◌, ◌≤◌, ◌≢◌, ◌==◌, ◌||◌, if◌then◌else◌, Bool, true, false, List, [], ◌∷◌, ◌++◌, length, refl, ap, sym, ◌∙◌, arith}
+use Rattle.std.proofs.Common.{◌≡◌, ℕ, ◌+◌, ◌<◌, ◌≤◌, ◌≢◌, ◌==◌, if◌then◌else◌, Bool, true, false, List, [], ◌∷◌, ◌++◌, refl, arith}
 use Rattle.std.proofs.lemmas.Bool.Decides.{nat_tests}
 use Rattle.history_lock.specs.Places.{times, is_own, Within, AllPlaces}
 use Rattle.history_lock.specs.Rule.{below}
-use Rattle.history_lock.proofs.Tests.{or-not-first, or-not-second, or-neither}
+use Rattle.history_lock.proofs.Booleans.{or-not-first, or-not-second, or-neither}
 
 pub times-append : (xs ys : List ℕ) (i : ℕ) → times (xs ++ ys) i ≡ times xs i + times ys i
 times-append [] ys i = omega arith

@@ -1,9 +1,9 @@
 -- Which entries are picked, when the history grows, when places change, and when two lists of places become one.
-use Rattle.std.proofs.Common.{◌≡◌, ⊎_elim, ℕ, ◌+◌, ◌<◌, ◌≤◌, Bool, true, false, ◌&&◌, ◌||◌, ◌==◌, if◌then◌else◌, List, [], ◌∷◌, ◌++◌, length, refl, ap, sym, ◌∙◌, subst, arith}
+use Rattle.std.proofs.Common.{◌≡◌, ⊎_elim, ℕ, ◌+◌, ◌<◌, ◌≤◌, Bool, true, false, ◌&&◌, ◌||◌, ◌==◌, List, [], ◌∷◌, ◌++◌, length, refl, ap, sym, ◌∙◌, arith}
 use Rattle.history_lock.specs.declared.entry.Who.{Who}
 use Rattle.history_lock.specs.declared.entry.Entry.{Entry}
 use Rattle.history_lock.specs.Places.{same_who, is_among, is_own, picks, has, picked, Belong, Within}
-use Rattle.history_lock.proofs.Tests.{never-both, or-either, or-neither, or-swaps, or-groups}
+use Rattle.history_lock.proofs.Booleans.{never-both, or-either, or-neither, or-swaps, or-groups}
 use Rattle.history_lock.proofs.Whos.{among-left, among-right, among-others}
 
 -- a place of either
@@ -87,9 +87,9 @@ module _ {C R : Type 0} where
   pub belong-join : (m n : ℕ → Bool) (xs ys : List Who) (i : ℕ) (es : List (Entry C R)) → Belong m xs i es → Belong n ys i es → Belong (either m n) (xs ++ ys) i es
   belong-join m n xs ys i [] p q = tt
   belong-join m n xs ys i (e ∷ es) p q = (
-      (λ t. ⊎_elim (λ here. among-left e.who xs ys (p.0 here)) (λ there. among-right e.who xs ys (q.0 there)) (or-either (m i) (n i) t)),
-      belong-join m n xs ys (i + 1) es p.1 q.1,
-    )
+    (λ t. ⊎_elim (λ here. among-left e.who xs ys (p.0 here)) (λ there. among-right e.who xs ys (q.0 there)) (or-either (m i) (n i) t)),
+    belong-join m n xs ys (i + 1) es p.1 q.1,
+  )
 
   -- the places of others add nothing to an operation that is none of theirs
   pub alike-join : (m n : ℕ → Bool) (ys : List Who) (who : Who) (i : ℕ) (es : List (Entry C R)) → is_among who ys ≡ false → Belong n ys i es → Alike m (either m n) who i es

@@ -1,5 +1,5 @@
 -- The queue of tickets, and what a change of one view leaves of the rule.
-use Rattle.std.proofs.Common.{◌≡◌, ◌≢◌, ℕ, zero, suc, ◌+◌, ◌%◌, ◌^◌, ◌<◌, ◌≤◌, ◌⊎◌, ⊎_elim, inl, inr, List, [], ◌∷◌, ◌++◌, length, get_or, set, refl, ap, sym, ◌∙◌, subst, arith}
+use Rattle.std.proofs.Common.{◌≡◌, ◌≢◌, ℕ, zero, suc, ◌%◌, ◌^◌, ◌<◌, ◌≤◌, ⊎_elim, inl, inr, List, [], ◌∷◌, set, refl, ap, sym, ◌∙◌, subst, arith}
 use mathlib.Core.Logic.{dite}
 use mathlib.Core.Option.{none, some, some-injective, some-ne-none}
 use mathlib.Core.Option as maybe
@@ -13,7 +13,7 @@ use Rattle.history_lock.specs.declared.rule.Held.{Held}
 use Rattle.history_lock.specs.declared.rule.Stage.{Stage}
 use Rattle.history_lock.specs.declared.rule.Stage.TheVariants.{Free, Waits, Serves}
 use Rattle.history_lock.specs.declared.rule.Known.{Known}
-use Rattle.history_lock.specs.Rule.{Meaning, total, queued, HasTicket, parts_of, queued_of, Fits, Serving, NoneServes, Placed, Kept}
+use Rattle.history_lock.specs.Rule.{Meaning, total, queued, HasTicket, parts_of, queued_of, Serving, NoneServes, Placed, Kept}
 use Rattle.history_lock.proofs.Totals.{total-below, total-alone}
 
 queued-parts : (st : Stage) (n : ℕ) → ((t : ℕ) → HasTicket st t → 0 < n) → queued st ≤ n

@@ -1,7 +1,7 @@
 -- How a seat comes to its turn.
-use Rattle.std.proofs.Common.{◌≡◌, ◌≢◌, ℕ, ◌%◌, ◌^◌, List, [], ◌∷◌, true, refl, ap, sym, ◌∙◌, subst, Some}
+use Rattle.std.proofs.Common.{◌≡◌, ℕ, ◌%◌, ◌^◌, [], ◌∷◌, true, refl, ap, ◌∙◌, subst, Some}
 use mathlib.Core.Option.{none}
-use Rattle.atomic_table.specs.Table.{Me, Step, step, Allows}
+use Rattle.atomic_table.specs.Table.{Me, step, Allows}
 use Rattle.history_lock.specs.declared.rule.Origin.{Origin}
 use Rattle.history_lock.specs.declared.rule.Held.{Held}
 use Rattle.history_lock.specs.declared.rule.Held.TheVariants.{Here}

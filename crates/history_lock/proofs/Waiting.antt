@@ -1,37 +1,28 @@
 -- Drawing a ticket, and looking whether it is served, keep the rule.
-use Rattle.std.proofs.Common.{◌≡◌, ◌≢◌, ℕ, zero, suc, ◌+◌, ◌-◌, ◌%◌, ◌^◌, ◌<◌, ◌≤◌, ◌⊎◌, ⊎_elim, inl, inr, List, [], ◌∷◌, ◌++◌, length, get_or, set, eqb, refl, ap, sym, ◌∙◌, subst, arith, Option, Some, None, length-append}
+use Rattle.std.proofs.Common.{◌≡◌, ℕ, ◌+◌, ◌%◌, ◌^◌, ◌<◌, ⊎_elim, inr, List, [], ◌∷◌, ◌++◌, length, get_or, set, refl, ap, sym, ◌∙◌, subst, arith, Option, Some}
 use Rattle.std.proofs.lemmas.List.{append-nil}
-use Rattle.std.proofs.lemmas.Bool.Decides.{nat_tests}
 use mathlib.Core.Logic.{dite}
-use mathlib.Core.Option.{none, some, some-injective, some-ne-none}
-use mathlib.Core.Option as maybe
-use mathlib.Core.List.{IsPrefix}
-use native.Mathlib.Decide.{ℕ_discrete, dec_le}
+use mathlib.Core.Option.{none, some, some-injective}
+use native.Mathlib.Decide.{ℕ_discrete}
 use lib.ListN.{get_elem?}
-use lib.Seq.{set-get_or}
-use Rattle.atomic_table.specs.Table.{Final, Seen, State, Me, step, Act, keeps, takes, gives, rest, stepped, Allows, Splits, Joins, opening}
-use prog.Atomic.{either}
-use Rattle.atomic_table.proofs.Lists.{exchanged, at_set, set_else, set_again, at_snoc, at_longer}
+use Rattle.atomic_table.specs.Table.{State, Me, step, keeps, takes, Allows}
 use Rattle.history_lock.specs.declared.entry.Entry.{Entry}
 use Rattle.history_lock.specs.declared.view.View.{View}
 use Rattle.history_lock.specs.declared.rule.Origin.{Origin}
-use Rattle.history_lock.specs.declared.rule.Note.{Note}
 use Rattle.history_lock.specs.declared.rule.Held.{Held}
-use Rattle.history_lock.specs.declared.rule.Held.TheVariants.{Here, Made}
+use Rattle.history_lock.specs.declared.rule.Held.TheVariants.{Here}
 use Rattle.history_lock.specs.declared.rule.Stage.{Stage}
 use Rattle.history_lock.specs.declared.rule.Stage.TheVariants.{Free, Waits, Serves}
 use Rattle.history_lock.specs.declared.rule.Known.{Known}
-use Rattle.history_lock.specs.Places.{times, is_own, Within, AllPlaces}
-use Rattle.history_lock.specs.Legal.{replay, count_after, legal}
-use Rattle.history_lock.specs.Rule.{Meaning, total, below, queued, HasTicket, parts_of, queued_of, times_of, StandsAt, Fits, NoneServes, Placed, Kept}
-use Rattle.history_lock.specs.Steps.{newly, draws, Served, looks, entry_of, logged, logs, passes, offers, staying, leaving, merged, spent, learns, longer, shorter, Closing}
+use Rattle.history_lock.specs.Legal.{legal}
+use Rattle.history_lock.specs.Rule.{Meaning, queued, HasTicket, parts_of, queued_of, times_of, StandsAt, Fits, Kept}
+use Rattle.history_lock.specs.Steps.{draws, looks}
 use Rattle.history_lock.proofs.Keeping.{next-mod, same-stage, load-same, unchanged}
-use Rattle.history_lock.proofs.Whole.{owns-all, sees-all}
-use Rattle.history_lock.proofs.Beginnings.{prefix-trans, prefix-grows, prefix-shorter, prefix-length, prefix-whole, by-length}
-use Rattle.history_lock.proofs.Totals.{total-set, total-kept, total-more, total-at, total-alone}
-use Rattle.history_lock.proofs.Owning.{times-append, own-times, within-more, within-join, within-wider, below-more}
-use Rattle.history_lock.proofs.Histories.{legal-more}
-use Rattle.history_lock.proofs.Queue.{queued-none, set-at, Distinct, each-set, distinct-set, none-serves-set, placed-set, out-with, same-ticket, first-in-line}
+use Rattle.history_lock.proofs.Whole.{sees-all}
+use Rattle.history_lock.proofs.Beginnings.{prefix-grows, prefix-length}
+use Rattle.history_lock.proofs.Totals.{total-set, total-kept}
+use Rattle.history_lock.proofs.Owning.{within-wider}
+use Rattle.history_lock.proofs.Queue.{set-at, each-set, distinct-set, placed-set, same-ticket, first-in-line}
 
 module _ {O S C R : Type 0} (m : Meaning O S C R) (key : Origin S) where
   abbrev Rule : State (Held O C R) (Known S C R) → Type 0

@@ -1,9 +1,9 @@
 -- Operations, which their three numbers tell apart.
-use Rattle.std.proofs.Common.{◌≡◌, ⊎_elim, ℕ, Bool, true, false, ◌==◌, ◌&&◌, ◌||◌, List, [], ◌∷◌, ◌++◌, refl, arith}
+use Rattle.std.proofs.Common.{◌≡◌, ⊎_elim, ℕ, Bool, true, false, ◌==◌, ◌&&◌, List, [], ◌∷◌, ◌++◌, refl, arith}
 use Rattle.std.proofs.lemmas.Bool.Decides.{nat_tests}
 use Rattle.history_lock.specs.declared.entry.Who.{Who}
 use Rattle.history_lock.specs.Places.{Each, same_who, is_among, Apart}
-use Rattle.history_lock.proofs.Tests.{never-both, and-both, or-first, or-second, or-either}
+use Rattle.history_lock.proofs.Booleans.{never-both, and-both, or-first, or-second, or-either}
 
 same-number : (a b : ℕ) → (a == b) ≡ true → a ≡ b
 same-number a b e = grind (arith, nat_tests)

@@ -101,7 +101,7 @@ impl<O: Object> History<O> {
     ) -> O::Reply
         requires history { seat.old.history ≡ self.now }
         requires turn { (seat.old.held ≡ true) × (turn.old ≡ turn_of seat.old) }
-        requires may { O.accepts call ≡ true }
+        requires accepted { O.accepts call ≡ true }
         ensures turn { turn.new ≡ turn.old }
         ensures seat { seat.new ≡ moved seat.old true seat.new.at }
         ensures logged { LoggedNext seat.old.at seat.new.at who call result }
@@ -124,7 +124,7 @@ impl<O: Object> History<O> {
     pub fn call(&self, rt: &impl Wait, seat: &mut Seat<O>, who: Who, call: O::Call) -> O::Reply
         requires history { seat.old.history ≡ self.now }
         requires free { seat.old.held ≡ false }
-        requires may { O.accepts call ≡ true }
+        requires accepted { O.accepts call ≡ true }
         ensures seat { seat.new ≡ moved seat.old false seat.new.at }
         ensures logged { Logged seat.old.at seat.new.at who call result }
         ensures legal { legal O.allows O.next self.now.opening self.now.first seat.new.at.seen }
@@ -171,7 +171,9 @@ impl<O: Object> History<O> {
         requires free { (seat.old.held ≡ false) × (other.held ≡ false) }
         ensures seat { seat.new ≡ record seat.old { parts = seat.old.parts + other.parts; at = seat.new.at } }
         ensures joined { Joined seat.old.at other.at seat.new.at }
-        ensures one { (seat.new.at.seen ≡ seat.old.at.seen) ⊎ (seat.new.at.seen ≡ other.at.seen) }
+        // What is seen is the longer list, and not more.
+        ensures longer { (seat.new.at.seen ≡ seat.old.at.seen) ⊎ (seat.new.at.seen ≡ other.at.seen) }
+        ensures legal { legal O.allows O.next self.now.opening self.now.first seat.new.at.seen }
     {
         let Seat { place, start: _ } = other;
         merge(&self.table.shared, &mut seat.place, place);

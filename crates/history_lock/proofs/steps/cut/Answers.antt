@@ -1,4 +1,4 @@
-use Rattle.std.proofs.Common.{ap, ◌∙◌, rules, arith}
+use Rattle.std.proofs.Common.{rules, arith}
 use Rattle.history_lock.proofs.Keeping.{offers-allowed, exchange-same}
 use Rattle.history_lock.proofs.Parts.{may-split}
 use Rattle.history_lock.proofs.steps.cut.Goals as goal

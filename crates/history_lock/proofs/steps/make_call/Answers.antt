@@ -1,4 +1,4 @@
-use Rattle.std.proofs.Common.{ap, [], ◌∷◌, arith, rules}
+use Rattle.std.proofs.Common.{ap, arith, rules}
 use Rattle.history_lock.specs.declared.rule.Note.{Note}
 use Rattle.history_lock.specs.declared.rule.Held.TheVariants.{Made}
 use Rattle.history_lock.proofs.Calls.{may-log, was-logged, was-called}

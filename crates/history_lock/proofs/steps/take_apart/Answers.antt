@@ -1,4 +1,3 @@
-use Rattle.std.proofs.Common.{ap, sym, ◌∙◌}
 use Rattle.history_lock.proofs.Closes.{ends, is-here, may-close}
 use Rattle.history_lock.proofs.steps.take_apart.Goals as goal
 

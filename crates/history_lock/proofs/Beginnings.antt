@@ -32,6 +32,7 @@ module _ {A : Type 0} where
   prefix-whole (x ∷ xs) (y ∷ ys) p le =
       let rest = prefix-whole xs ys (p.0, cc (p.1)) (omega arith) in cc (p.1, rest)
 
+  -- a beginning is no longer than the whole
   pub prefix-length : (xs ys : List A) → IsPrefix xs ys → length xs ≤ length ys
   prefix-length xs ys p = omega (arith, sym (ap length p.1) ∙ length-append xs p.0)
 

@@ -32,6 +32,7 @@ module _ {O S C R : Type 0} (m : Meaning O S C R) where
   allowed-there n call reply object then s ran is =
       subst (λ (z : S × C × R × O × O). m.allows z.0 z.1 z.2 (m.faults z.3) (m.faults z.4)) (λ i. (is i, sym ran.asked i, sym ran.replied i, sym ran.before i, sym ran.after i)) ran.allowed
 
+  -- and so is the state after it
   pub next-there : (n : Note O C R) (call : C) (reply : R) (object then : O) (s : S) → Ran n call reply object then → m.state object ≡ s → m.state then ≡ m.next s n.call.value n.reply.value
   next-there n call reply object then s ran is = ran.next ∙ (λ i. m.next (is i) (sym ran.asked i) (sym ran.replied i))
 

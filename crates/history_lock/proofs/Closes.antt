@@ -82,9 +82,9 @@ module _ {O S C R : Type 0} (m : Meaning O S C R) (key : Origin S) where
 module _ {O S C R : Type 0} (m : Meaning O S C R) where
   -- the same of the start that the table was told
   pub may-close : (told start : Start O) (id : ℕ) (v : Known S C R) (ws : List ℕ) (xs : List (Held O C R)) → told ≡ start → v.stage ≡ Free → v.parts ≡ start.parts
-      → Final (Seen (Kept m (origin_of m told)) id v) ws xs → Closing m (origin_of m start) v.at ws xs
+      → Final (Seen (Kept m (origin_of m.state m.faults told)) id v) ws xs → Closing m (origin_of m.state m.faults start) v.at ws xs
   may-close told start id v ws xs same free all final =
-      closes m (origin_of m start) id v ws xs free all (subst (λ (z : Start O). Final (Seen (Kept m (origin_of m z)) id v) ws xs) same final)
+      closes m (origin_of m.state m.faults start) id v ws xs free all (subst (λ (z : Start O). Final (Seen (Kept m (origin_of m.state m.faults z)) id v) ws xs) same final)
 
 module _ {O S C R : Type 0} (m : Meaning O S C R) (key : Origin S) (v : View C R) (ws : List ℕ) (xs : List (Held O C R)) (closing : Closing m key v ws xs) where
   -- what was taken out of the slot is the object

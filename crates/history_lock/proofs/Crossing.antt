@@ -16,15 +16,18 @@ use Rattle.history_lock.specs.contracts.history.History.TheInside as inside
 use Rattle.history_lock.specs.contracts.closed.Past as past
 
 module _ (O C R S : RattleType) (g : Ghosts O.Denot C.Denot R.Denot S.Denot) where
+  -- what the slot holds
   held_send : IsSend O → IsSend (held.the_row O C R)
   held_send o = search (sendable, crosses) depth 20
 
+  -- what the history keeps of its start
   start_send : IsSend (start.the_field O).row
   start_send = search (sendable, crosses) depth 12
 
   start_sync : IsSync (start.the_field O).row
   start_sync = search (sendable, crosses) depth 12
 
+  -- the parts of a history
   inside_send : IsSend O → IsSend (inside.the_row O C R S g)
   inside_send o =
       let all : AllSend (shape (inside.the_type O C R S g)).fields = (search (table.the_field_send, held_send, heap.send, heap.frees), (start_send, tt)) in
@@ -35,6 +38,7 @@ module _ (O C R S : RattleType) (g : Ghosts O.Denot C.Denot R.Denot S.Denot) whe
       let all : AllSync (shape (inside.the_type O C R S g)).fields = (search (table.the_field_sync, held_send, heap.send, heap.sync, heap.frees), (start_sync, tt)) in
       recorded_sync (inside.the_field O C R S g).row _ _ (inside.the_type O C R S g).to_one (struct_sync (shape (inside.the_type O C R S g)) all)
 
+  -- each type that callers have
   pub seat_send : IsSend O → IsSend (seat.the_row O C R S g)
   seat_send o = search (sendable, crosses, held_send, place.the_send) depth 20
 

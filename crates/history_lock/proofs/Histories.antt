@@ -4,11 +4,13 @@ use Rattle.history_lock.specs.declared.entry.Entry.{Entry}
 use Rattle.history_lock.specs.Legal.{replay, count_after, legal}
 
 module _ {S C R : Type 0} (next : S → C → R → S) where
+  -- the state after two lists
   pub replay-append : (s : S) (es fs : List (Entry C R)) → replay next s (es ++ fs) ≡ replay next (replay next s es) fs
   replay-append s [] fs = refl
   replay-append s (e ∷ es) fs = replay-append (next s e.call e.reply) es fs
 
 module _ {C R : Type 0} where
+  -- the count after two lists
   pub count_after-append : (n : ℕ) (es fs : List (Entry C R)) → count_after n (es ++ fs) ≡ count_after (count_after n es) fs
   count_after-append n [] fs = refl
   count_after-append n (e ∷ es) fs = count_after-append e.after es fs

@@ -71,6 +71,7 @@ module _ {O S C R : Type 0} (m : Meaning O S C R) (key : Origin S) where
       subst (λ (z : List ℕ × List (Known S C R)). Rule record { words = z.0; homes = s.homes; views = z.1 })
       (λ k. (sym (load-same s.words i) k, sym (set_again s.views id v at) k)) r
 
+  -- a seat may say how many parts the next split moves
   pub offers-allowed : (slots id n : ℕ) (me : Me (Held O C R) (Known S C R)) → (f : ℕ → ℕ) → ((k : ℕ) → f k ≡ k)
       → Allows Rule slots id me 0 f (offers (step slots 0 n n none) me)
   offers-allowed slots id n me f same s r deep at fits =
@@ -83,6 +84,7 @@ module _ {O S C R : Type 0} (m : Meaning O S C R) (key : Origin S) where
         refl,
       )
 
+  -- a seat may learn how its two lists lie
   pub learns-allowed : (slots id : ℕ) (me : Me (Held O C R) (Known S C R))
       → Allows Rule slots id me 0 (λ n. n) (learns (step slots 0 0 0 none) me)
   learns-allowed slots id me s r deep at fits =

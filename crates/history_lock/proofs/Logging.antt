@@ -84,6 +84,7 @@ module _ {O S C R : Type 0} (m : Meaning O S C R) (key : Origin S) where
         home = inr (out-with m key r.log r.passed id r.passed s.homes s.views v at serving r.home, (id, w, set-at s.views id v w at, serving));
       }
 
+  -- the seat whose ticket is served may log the call of its note
   pub logs-allowed : (slots id t : ℕ) (me : Me (Held O C R) (Known S C R)) (o : Origin S) (n : Note O C R) → me.0.stage ≡ Serves t → me.0.origin ≡ Some o → me.1 ≡ (0, Made n) ∷ []
       → legal m.allows m.next o.opening o.first (me.0.at.seen ++ entry_of m.faults n ∷ [])
       → Allows Rule slots id me 0 (λ k. (k + 1) % 2 ^ 64) (logs m.faults (step slots 0 1 0 none) me)

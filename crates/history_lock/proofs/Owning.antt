@@ -5,6 +5,7 @@ use Rattle.history_lock.specs.Places.{times, is_own, Within, AllPlaces}
 use Rattle.history_lock.specs.Rule.{below}
 use Rattle.history_lock.proofs.Booleans.{or-not-first, or-not-second, or-neither}
 
+-- how often a place is in two lists
 pub times-append : (xs ys : List ℕ) (i : ℕ) → times (xs ++ ys) i ≡ times xs i + times ys i
 times-append [] ys i = omega arith
 times-append (x ∷ xs) ys i = let rest = times-append xs ys i in omega arith
@@ -38,6 +39,7 @@ within-join (x ∷ xs) ys n p q i le =
     or-neither (x == i) (is_own (xs ++ ys) i) (or-not-first (x == i) (is_own xs i) (p i le))
     (within-join xs ys n (λ k l. or-not-second (x == k) (is_own xs k) (p k l)) q i le)
 
+-- a greater bound
 pub within-wider : (own : List ℕ) (n m : ℕ) → n ≤ m → Within (is_own own) n → Within (is_own own) m
 within-wider own n m le w i from = w i (omega (arith, le, from))
 
@@ -45,6 +47,7 @@ within-wider own n m le w i from = w i (omega (arith, le, from))
 pub below-more : (n i : ℕ) → below (n + 1) i ≡ below n i + times (n ∷ []) i
 below-more n i = grind (arith, nat_tests)
 
+-- a place that is there no time is not among them
 own-none : (own : List ℕ) (i : ℕ) → times own i ≡ 0 → is_own own i ≡ false
 own-none [] i e = refl
 own-none (j ∷ own) i e = or-neither (j == i) (is_own own i) (head (j == i) (times own i) e) (own-none own i (omega arith))
@@ -57,5 +60,6 @@ own-none (j ∷ own) i e = or-neither (j == i) (is_own own i) (head (j == i) (ti
 pub all-own : (own : List ℕ) (n : ℕ) → AllPlaces own n → (i : ℕ) → i < n → is_own own i ≡ true
 all-own own n all i lt = own-times own i (λ none_there. let one = all.0 i lt in omega arith)
 
+-- and none lies past the end
 pub all-within : (own : List ℕ) (n : ℕ) → AllPlaces own n → Within (is_own own) n
 all-within own n all i le = own-none own i (all.1 i le)

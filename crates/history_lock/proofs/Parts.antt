@@ -23,6 +23,7 @@ module _ {O S C R : Type 0} (m : Meaning O S C R) (key : Origin S) where
       (splits-allowed m key id (record old.0 { offer = n }) free some_parts fewer)
 
 module _ {C R : Type 0} where
+  -- the two cases
   joined-by : (b : Bool) (one other : View C R) → IsPrefix (if b then one.seen else other.seen) (if b then other.seen else one.seen)
       → Joined one other record { seen = if b then other.seen else one.seen; own = one.own ++ other.own }
   joined-by true one other p = record { past_one = p.0; past_other = []; seen_one = sym p.1; seen_other = sym (append-nil other.seen); own = refl }

@@ -73,6 +73,7 @@ module _ {O S C R : Type 0} (m : Meaning O S C R) (key : Origin S) where
         );
       }
 
+  -- the seat whose ticket is served may pass the turn on, with the object in the slot
   pub passes-allowed : (slots id t : ℕ) (me : Me (Held O C R) (Known S C R)) (o : Origin S) (object : O) → me.0.stage ≡ Serves t → me.0.origin ≡ Some o → me.1 ≡ (0, Here object) ∷ []
       → StandsAt m o me.0.at.seen object → Allows Rule slots id me 2 (λ k. (k + 1) % 2 ^ 64) (passes (step slots 2 1 0 none) me)
   passes-allowed slots id t me o object serves from slot stands s r deep at fits =

@@ -16,21 +16,25 @@ use Rattle.history_lock.specs.declared.rule.Known.{Known}
 use Rattle.history_lock.specs.Rule.{Meaning, total, queued, HasTicket, parts_of, queued_of, Serving, NoneServes, Placed, Kept}
 use Rattle.history_lock.proofs.Totals.{total-below, total-alone}
 
+-- a seat with a ticket has a part
 queued-parts : (st : Stage) (n : ℕ) → ((t : ℕ) → HasTicket st t → 0 < n) → queued st ≤ n
 queued-parts Free n h = omega arith
 queued-parts (Waits t) n h = h t refl
 queued-parts (Serves t) n h = h t refl
 
+-- a seat that has none is not counted
 pub queued-none : (st : Stage) → ((t : ℕ) → HasTicket st t → ⊥) → queued st ≡ 0
 queued-none Free h = refl
 queued-none (Waits t) h = absurd (h t refl)
 queued-none (Serves t) h = absurd (h t refl)
 
+-- no seat is counted twice
 queued-most : (st : Stage) → queued st ≤ 1
 queued-most Free = omega arith
 queued-most (Waits t) = omega arith
 queued-most (Serves t) = omega arith
 
+-- what was put at a place stands there
 pub set-at : {A : Type 0} (xs : List A) (i : ℕ) (v w : A) → get_elem? xs i ≡ some v → get_elem? (set xs i w) i ≡ some w
 set-at [] i v w at = absurd (some-ne-none v (sym at))
 set-at (x ∷ xs) zero v w at = refl
@@ -47,6 +51,7 @@ module _ {S C R : Type 0} where
   each-set F vs id w mine others j u at =
       ⊎_elim (λ (h : (j ≡ id) × (w ≡ u)). subst F h.1 mine) (λ (h : (j ≢ id) × (get_elem? vs j ≡ some u)). others j u h.0 h.1) (at_set vs id j w u at)
 
+  -- tickets stay distinct where the new one clashes with none
   pub distinct-set : (vs : List (Known S C R)) (id : ℕ) (w : Known S C R) → Distinct vs → ((j t : ℕ) (u : Known S C R) → j ≢ id → get_elem? vs j ≡ some u → HasTicket u.stage t → HasTicket w.stage t → ⊥)
       → Distinct (set vs id w)
   distinct-set vs id w apart clash i j t a b p q x y =
@@ -57,12 +62,14 @@ module _ {S C R : Type 0} where
       (λ (k : (j ≢ id) × (get_elem? vs j ≡ some b)). apart i j t a b h.1 k.1 x y) (at_set vs id j w b q))
       (at_set vs id i w a p)
 
+  -- a seat still serves where the one that changed does
   pub serving-set : (vs : List (Known S C R)) (id passed : ℕ) (v w : Known S C R) → get_elem? vs id ≡ some v → (v.stage ≡ Serves passed → w.stage ≡ Serves passed) → Serving vs passed → Serving (set vs id w) passed
   serving-set vs id passed v w at keeps s =
       dite (ℕ_discrete s.0 id)
       (λ e. (id, w, set-at vs id v w at, keeps (ap (λ (z : Known S C R). z.stage) (some-injective v s.1 (sym at ∙ (ap (get_elem? vs) (sym e) ∙ s.2))) ∙ s.3)))
       (λ ne. (s.0, s.1, set_else vs id s.0 w ne ∙ s.2, s.3))
 
+  -- none serves where the one that changed does not
   pub none-serves-set : (vs : List (Known S C R)) (id : ℕ) (w : Known S C R) → ((t : ℕ) → w.stage ≡ Serves t → ⊥) → NoneServes vs → NoneServes (set vs id w)
   none-serves-set vs id w mine others = each-set (λ u. (t : ℕ) → u.stage ≡ Serves t → ⊥) vs id w mine (λ j u _. others j u)
 

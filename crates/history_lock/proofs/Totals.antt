@@ -26,10 +26,12 @@ module _ {X : Type 0} where
   total-at f (x ∷ xs) zero v at = let e : f x ≡ f v = ap f (some-injective x v at) in omega arith
   total-at f (x ∷ xs) (suc i) v at = let rest = total-at f xs i v at in omega arith
 
+  -- a total of smaller numbers is smaller
   pub total-below : (f g : X → ℕ) (xs : List X) → ((i : ℕ) (v : X) → get_elem? xs i ≡ some v → f v ≤ g v) → total f xs ≤ total g xs
   total-below f g [] h = omega arith
   total-below f g (x ∷ xs) h = let head = h 0 x refl in let rest = total-below f g xs (λ i v at. h (suc i) v at) in omega arith
 
+  -- where there is nothing of p, there is nothing of f
   total-none : (p f : X → ℕ) (xs : List X) → total p xs ≡ 0 → ((i : ℕ) (v : X) → get_elem? xs i ≡ some v → p v ≡ 0 → f v ≡ 0) → total f xs ≡ 0
   total-none p f [] e h = refl
   total-none p f (x ∷ xs) e h =

@@ -19,6 +19,7 @@ module _ {O S C R : Type 0} where
     pub is : new ≡ (record old.0 { stage = Waits t }, old.1)
 
 module _ {O S C R : Type 0} (m : Meaning O S C R) (key : Origin S) where
+  -- a seat that waits may look
   pub may-look : (slots id t : ℕ) (old mid : Me (Held O C R) (Known S C R)) (o : Origin S) → Waiting old t mid → old.0.origin ≡ Some o → old.1 ≡ []
       → Allows (Kept m key) slots id mid 2 (λ n. n) (looks m (step slots 2 0 0 none) mid)
   may-look slots id t old mid o w from empty =
@@ -67,11 +68,13 @@ module _ {O S C R : Type 0} (m : Meaning O S C R) (key : Origin S) where
     pub slot : me.1 ≡ (0, Here object) ∷ []
     pub stands : StandsAt m key me.0.at.seen object
 
+  -- by cases on the stage
   in-turn-at : (me : Me (Held O C R) (Known S C R)) (stage : Stage) → me.0.stage ≡ stage → is_turn stage ≡ true → HasSlot m key me stage → (object : O) × InTurn me object
   in-turn-at me Free e b h = absurd (cc (b))
   in-turn-at me (Waits t) e b h = absurd h
   in-turn-at me (Serves t) e b h = (h.0, record { ticket = t; serves = e; slot = h.1; stands = h.2 })
 
+  -- a seat in a turn has some object
   pub in-turn : (me : Me (Held O C R) (Known S C R)) → Sits m key me → is_turn me.0.stage ≡ true → (object : O) × InTurn me object
   in-turn me sits turn = in-turn-at me me.0.stage refl turn sits.slot
 

@@ -28,6 +28,7 @@ module _ {O S C R : Type 0} (m : Meaning O S C R) (key : Origin S) where
   abbrev Rule : State (Held O C R) (Known S C R) → Type 0
   Rule = Kept m key
 
+  -- what holds of a view still does when a ticket is drawn
   later-ticket : (log : List (Entry C R)) (drawn passed : ℕ) (v : Known S C R) → Fits key log drawn passed v → Fits key log (drawn + 1) passed v
   later-ticket log drawn passed v f = record {
     origin = f.origin;
@@ -40,6 +41,7 @@ module _ {O S C R : Type 0} (m : Meaning O S C R) (key : Origin S) where
     idle = f.idle;
   }
 
+  -- a seat that has none may draw a ticket
   pub draws-allowed : (slots id : ℕ) (me : Me (Held O C R) (Known S C R)) → me.0.stage ≡ Free → 0 < me.0.parts
       → Allows Rule slots id me 1 (λ n. (n + 1) % 2 ^ 64) (draws (step slots 1 1 0 none) me)
   draws-allowed slots id me free some_parts s r deep at fits =
@@ -117,6 +119,7 @@ module _ {O S C R : Type 0} (m : Meaning O S C R) (key : Origin S) where
         home = inr (refl, (id, w, set-at s.views id v w at, refl));
       }
 
+  -- a seat that waits may look
   pub looks-allowed : (slots id t : ℕ) (me : Me (Held O C R) (Known S C R)) (o : Origin S) → me.0.stage ≡ Waits t → me.0.origin ≡ Some o → me.1 ≡ []
       → Allows Rule slots id me 2 (λ n. n) (looks m (step slots 2 0 0 none) me)
   looks-allowed slots id t me o waits from empty s r deep at fits =

@@ -23,8 +23,13 @@ pub record Meaning (O S C R : Type 0) : Type 1 where
   pub allows : S → C → R → ℕ → ℕ → Type 0
   pub next : S → C → R → S
 
+-- the same, of its parts
 abbrev pub meaning : {O S C R : Type 0} → (O → S) → (O → ℕ) → (S → C → R → ℕ → ℕ → Type 0) → (S → C → R → S) → Meaning O S C R
 meaning state faults allows next = record { state = state; faults = faults; allows = allows; next = next }
+
+-- what a history begins with
+abbrev pub origin_of : {O S : Type 0} → (O → S) → (O → ℕ) → Start O → Origin S
+origin_of state faults start = record { opening = state start.object.value; first = faults start.object.value; parts = start.parts }
 
 -- f of each, added up
 abbrev pub total : {X : Type 0} → (X → ℕ) → List X → ℕ
@@ -35,25 +40,28 @@ total f (x ∷ xs) = f x + total f xs
 abbrev pub below : ℕ → ℕ → ℕ
 below n i = if nat_lt i n then 1 else 0
 
--- 1 for a seat that has a ticket
+-- 1 for a stage with a ticket
 abbrev pub queued : Stage → ℕ
 queued Free = 0
 queued (Waits t) = 1
 queued (Serves t) = 1
 
--- the seat has this ticket
+-- a stage with this ticket
 abbrev pub HasTicket : Stage → ℕ → Type 0
 HasTicket Free t = ⊥
 HasTicket (Waits u) t = u ≡ t
 HasTicket (Serves u) t = u ≡ t
 
 module _ {S C R : Type 0} where
+  -- a seat's parts
   abbrev pub parts_of : Known S C R → ℕ
   parts_of v = v.parts
 
+  -- 1 for a seat that has a ticket
   abbrev pub queued_of : Known S C R → ℕ
   queued_of v = queued v.stage
 
+  -- how often a place is among a seat's own
   abbrev pub times_of : ℕ → Known S C R → ℕ
   times_of i v = times v.at.own i
 
@@ -77,10 +85,6 @@ module _ {S C R : Type 0} where
   NoneServes views = (id : ℕ) (v : Known S C R) → get_elem? views id ≡ some v → (t : ℕ) → v.stage ≡ Serves t → ⊥
 
 module _ {O S C R : Type 0} where
-  -- what a history begins with
-  abbrev pub origin_of : Meaning O S C R → Start O → Origin S
-  origin_of m start = record { opening = m.state start.object.value; first = m.faults start.object.value; parts = start.parts }
-
   -- the object stands where these entries lead, with the count that they left
   abbrev pub StandsAt : Meaning O S C R → Origin S → List (Entry C R) → O → Type 0
   StandsAt m key log object =

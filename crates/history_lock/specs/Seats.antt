@@ -34,6 +34,7 @@ pub record Whose : Type 0 where
   pub name : TableId
   pub number : ℕ
 
+-- the history of this name, from this origin
 abbrev pub beginning : {S : Type 0} → TableId → Origin S → Beginning S
 beginning name origin = record { name = name; opening = origin.opening; first = origin.first; parts = origin.parts }
 
@@ -57,6 +58,7 @@ module _ {S C R : Type 0} where
 abbrev pub IsLock : TableId → Type 0
 IsLock z = (z.words ≡ 3) × (z.slots ≡ 1)
 
+-- a stage in a turn
 abbrev pub is_turn : Stage → Bool
 is_turn (Serves t) = true
 is_turn _ = false

@@ -29,17 +29,19 @@ module _ {S C R : Type 0} where
   abbrev pub newly : Origin S → Known S C R
   newly key = record { origin = Some key; parts = key.parts; offer = 0; stage = Free; at = record { seen = []; own = [] }; told = [] }
 
-  -- the seat after a split, and the new seat
+  -- the seat after a split
   abbrev pub staying : Known S C R → Known S C R
   staying v = record v { parts = v.parts - v.offer; offer = 0 }
 
+  -- the new seat
   abbrev pub leaving : Known S C R → Known S C R
   leaving v = record v { parts = v.offer; offer = 0; at = record { seen = v.at.seen; own = [] } }
 
-  -- the seat after a join, and the other one
+  -- the seat after a join
   abbrev pub merged : Known S C R → Known S C R → Known S C R
   merged v w = record v { parts = v.parts + w.parts; at = record { seen = longer v.at.seen w.at.seen; own = v.at.own ++ w.at.own }; told = shorter v.at.seen w.at.seen }
 
+  -- the other one, which knows nothing
   abbrev pub spent : Known S C R
   spent = record { origin = None; parts = 0; offer = 0; stage = Free; at = record { seen = []; own = [] }; told = [] }
 

@@ -28,12 +28,12 @@ pub struct History<O: Object> {
 
 impl<O: Object> Model for History<O> {
     ghost use Rattle.std.specs.Prelude.{◌≡◌};
-    ghost use Rattle.history_lock.specs.Rule.{meaning, origin_of};
+    ghost use Rattle.history_lock.specs.Rule.{origin_of};
     ghost use Rattle.history_lock.specs.Seats.{Beginning, IsLock, beginning};
 
     ghost Value = { Beginning O.State };
 
-    ghost view = { λ h. beginning h.table.shared.table_id (origin_of (meaning O.state O.faults O.allows O.next) h.start) };
+    ghost view = { λ h. beginning h.table.shared.table_id (origin_of O.state O.faults h.start) };
 
     ghost invariant = { λ h. (h.table.shared.key ≡ h.start) × IsLock h.table.shared.table_id };
 }

@@ -71,9 +71,9 @@ impl<O: Object> TableRule<Held<O, O::Call, O::Reply>, Known<O::State, O::Call, O
     ghost use Rattle.history_lock.specs.Rule.{Kept, meaning, origin_of};
     ghost use Rattle.history_lock.specs.Steps.{newly};
 
-    ghost holds = { λ start. Kept (meaning O.state O.faults O.allows O.next) (origin_of (meaning O.state O.faults O.allows O.next) start) };
+    ghost holds = { λ start. Kept (meaning O.state O.faults O.allows O.next) (origin_of O.state O.faults start) };
 
-    ghost first = { λ start. newly (origin_of (meaning O.state O.faults O.allows O.next) start) };
+    ghost first = { λ start. newly (origin_of O.state O.faults start) };
 }
 
 /// Draws a ticket.

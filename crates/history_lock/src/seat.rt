@@ -21,12 +21,12 @@ impl<O: Object> Model for Seat<O> {
 
     ghost Value = { Sitting O.State O.Call O.Reply };
 
-    ghost view = { λ s. record { history = beginning s.place.table_id (origin_of (meaning O.state O.faults O.allows O.next) s.start.value); number = s.place.id; parts = s.place.me.0.parts; held = is_turn s.place.me.0.stage; at = s.place.me.0.at } };
+    ghost view = { λ s. record { history = beginning s.place.table_id (origin_of O.state O.faults s.start.value); number = s.place.id; parts = s.place.me.0.parts; held = is_turn s.place.me.0.stage; at = s.place.me.0.at } };
 
-    ghost invariant = { λ s. Sits (meaning O.state O.faults O.allows O.next) (origin_of (meaning O.state O.faults O.allows O.next) s.start.value) s.place.me };
+    ghost invariant = { λ s. Sits (meaning O.state O.faults O.allows O.next) (origin_of O.state O.faults s.start.value) s.place.me };
 }
 
-/// The right to log, which no other seat has until the turn ends.
+/// The right to log, which no other seat has until the turn ends. One that is dropped never ends.
 #[derive(Drop)]
 pub struct Turn<O: Object> {
     pub(crate) place: Snapshot<Place<O>>,

@@ -108,11 +108,11 @@ pub(crate) fn make_call<O: Object>(
     call: O::Call,
 ) -> O::Reply
     requires table { (place.old.table_id ≡ top.now.table_id) × IsLock top.now.table_id }
-    requires sits { Sits (meaning O.state O.faults O.allows O.next) (origin_of (meaning O.state O.faults O.allows O.next) start.now.value) place.old.me }
+    requires sits { Sits (meaning O.state O.faults O.allows O.next) (origin_of O.state O.faults start.now.value) place.old.me }
     requires turn { is_turn place.old.me.0.stage ≡ true }
     requires accepted { O.accepts call ≡ true }
     ensures same { (place.new.table_id ≡ place.old.table_id) × (place.new.id ≡ place.old.id) }
-    ensures called { Called (meaning O.state O.faults O.allows O.next) (origin_of (meaning O.state O.faults O.allows O.next) start.now.value) place.old.me place.new.me who call result }
+    ensures called { Called (meaning O.state O.faults O.allows O.next) (origin_of O.state O.faults start.now.value) place.old.me place.new.me who call result }
 {
     let asked = Snapshot::of(&call);
     let mut object = take_object(top, place);
@@ -176,7 +176,7 @@ pub(crate) fn take_apart<O: Object>(table: Shelf<O>, place: Place<O>, start: &St
     requires table { (place.table_id ≡ table.shared.table_id) × IsLock table.shared.table_id × (table.shared.key ≡ start.now) }
     requires free { place.me.0.stage ≡ Free }
     requires all { place.me.0.parts ≡ start.now.parts }
-    ensures { Ends (meaning O.state O.faults O.allows O.next) (origin_of (meaning O.state O.faults O.allows O.next) start.now) place.me.0.at result.0 result.1 }
+    ensures { Ends (meaning O.state O.faults O.allows O.next) (origin_of O.state O.faults start.now) place.me.0.at result.0 result.1 }
 {
     let mut closed = table.close_with(place);
     let count = closed.word(COUNT);

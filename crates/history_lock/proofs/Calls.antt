@@ -12,7 +12,7 @@ use Rattle.history_lock.specs.declared.rule.Known.{Known}
 use Rattle.history_lock.specs.Legal.{replay, legal}
 use Rattle.history_lock.specs.Rule.{Meaning, Kept, StandsAt}
 use Rattle.history_lock.specs.Steps.{entry_of, logged, logs}
-use Rattle.history_lock.specs.Seats.{Sits, HasSlot, Called}
+use Rattle.history_lock.specs.Parts.{Sits, HasSlot, Called}
 use Rattle.history_lock.proofs.Histories.{replay-append, count_after-append, legal-more}
 use Rattle.history_lock.proofs.Logging.{logs-allowed}
 use Rattle.history_lock.proofs.Turns.{InTurn}

@@ -14,6 +14,6 @@ pub mod Logging
 pub mod Calls
 pub mod Passing
 pub mod Parting
-pub mod Parts
+pub mod Joining
 pub mod Closes
 pub mod Crossing

@@ -9,7 +9,7 @@ use Rattle.history_lock.specs.declared.rule.Stage.TheVariants.{Free, Waits, Serv
 use Rattle.history_lock.specs.declared.rule.Known.{Known}
 use Rattle.history_lock.specs.declared.rule.Stage.{Stage}
 use Rattle.history_lock.specs.Rule.{Meaning, Kept, StandsAt}
-use Rattle.history_lock.specs.Seats.{Sits, HasSlot, is_turn}
+use Rattle.history_lock.specs.Parts.{Sits, HasSlot, is_turn}
 use Rattle.history_lock.specs.Steps.{Served, looks}
 use Rattle.history_lock.proofs.Waiting.{looks-allowed}
 

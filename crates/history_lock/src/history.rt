@@ -19,7 +19,7 @@ use std::marker::Model;
 use std::snapshot::Snapshot;
 use std::sync::Wait;
 
-/// An object that threads share, and the list of all calls that were made on it. The list exists in the proofs alone.
+/// An object that threads share, and the list of all calls made on it, which is in the proofs alone.
 #[derive(Drop)]
 pub struct History<O: Object> {
     table: Shelf<O>,
@@ -29,7 +29,8 @@ pub struct History<O: Object> {
 impl<O: Object> Model for History<O> {
     ghost use Rattle.std.specs.Prelude.{◌≡◌};
     ghost use Rattle.history_lock.specs.Rule.{origin_of};
-    ghost use Rattle.history_lock.specs.Seats.{Beginning, IsLock, beginning};
+    ghost use Rattle.history_lock.specs.Seats.{Beginning};
+    ghost use Rattle.history_lock.specs.Parts.{IsLock, beginning};
 
     ghost Value = { Beginning O.State };
 
@@ -39,7 +40,7 @@ impl<O: Object> Model for History<O> {
 }
 
 impl<O: Object> History<O> {
-    /// A history with no call, and a seat that has all of its parts. Each thread needs a seat with one part at least.
+    /// A history with no call, and a seat with all of its parts. Each seat that is split off takes one at least.
     pub fn new(alloc: Global, object: O, parts: u64) -> Result<(History<O>, Seat<O>), O>
         requires { 0 < parts }
         ensures opening { IfOk result (λ made. made.0.opening ≡ O.state object) }

@@ -17,11 +17,12 @@ pub struct Seat<O: Object> {
 
 impl<O: Object> Model for Seat<O> {
     ghost use Rattle.history_lock.specs.Rule.{meaning, origin_of};
-    ghost use Rattle.history_lock.specs.Seats.{Sitting, beginning, is_turn, Sits};
+    ghost use Rattle.history_lock.specs.Seats.{Sitting};
+    ghost use Rattle.history_lock.specs.Parts.{Sits, sitting};
 
     ghost Value = { Sitting O.State O.Call O.Reply };
 
-    ghost view = { λ s. record { history = beginning s.place.table_id (origin_of O.state O.faults s.start.value); number = s.place.id; parts = s.place.me.0.parts; held = is_turn s.place.me.0.stage; at = s.place.me.0.at } };
+    ghost view = { λ s. sitting s.place.table_id (origin_of O.state O.faults s.start.value) s.place.id s.place.me.0 };
 
     ghost invariant = { λ s. Sits (meaning O.state O.faults O.allows O.next) (origin_of O.state O.faults s.start.value) s.place.me };
 }

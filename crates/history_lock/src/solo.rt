@@ -31,7 +31,8 @@ impl<O: Object> Model for Solo<O> {
 
 impl<O: Object> Solo<O> {
     pub fn new(alloc: Global, object: O) -> Result<Solo<O>, O>
-        ensures history { IfOk result (λ solo. (solo.history.opening ≡ O.state object) × (solo.history.first ≡ O.faults object)) }
+        ensures opening { IfOk result (λ solo. solo.history.opening ≡ O.state object) }
+        ensures first { IfOk result (λ solo. solo.history.first ≡ O.faults object) }
         ensures at { IfOk result (λ solo. solo.at ≡ nothing) }
         ensures refused { IfErr result (λ back. back ≡ object) }
     {

@@ -3,7 +3,7 @@ ghost use Rattle.std.specs.Prelude.{◌≡◌, ℕ, ◌<◌, true, [], ◌∷◌
 ghost use mathlib.Core.List.{IsPrefix};
 ghost use Rattle.history_lock.specs.declared.rule.Held.TheVariants.{Here, Taken};
 ghost use Rattle.history_lock.specs.declared.rule.Stage.TheVariants.{Free};
-ghost use Rattle.history_lock.specs.Seats.{Called, IsLock, Sits, is_turn};
+ghost use Rattle.history_lock.specs.Parts.{Called, IsLock, Sits, is_turn};
 ghost use Rattle.history_lock.specs.Rule.{meaning, origin_of};
 ghost use Rattle.history_lock.specs.Steps.{Ends, Served, leaving, longer, merged, shorter, staying};
 
@@ -140,18 +140,19 @@ pub(crate) fn pass_turn<O: Object>(top: &Top<O>, place: &mut Place<O>)
     ensures passed { place.new.me ≡ (record place.old.me.0 { stage = Free }, []) }
 {
     let served = top.fetch_add::<Pass>(place, SERVING, 1);
-    // A seat draws its ticket before it looks, so one that is not seen here finds the ticket that is served now.
+    // A seat draws its ticket before it looks: one that is not seen here finds the ticket that is served now.
     if top.peek(TICKETS) != served.wrapping_add(1) {
         top.wake_all(SERVING);
     }
 }
 
-/// Moves so many parts to a new seat. A split has no number of its own, so an exchange that changes nothing says it first.
+/// Moves so many parts to a new seat. A split has no number of its own: an exchange that changes nothing says it.
 pub(crate) fn cut<O: Object>(top: &Top<O>, place: &mut Place<O>, parts: u64) -> Place<O>
     requires table { (place.old.table_id ≡ top.now.table_id) × IsLock top.now.table_id }
     requires free { (place.old.me.0.stage ≡ Free) × (place.old.me.1 ≡ []) }
     requires parts { (0 < parts) × (parts < place.old.me.0.parts) }
-    ensures same { (place.new.table_id ≡ place.old.table_id) × (place.new.id ≡ place.old.id) × (result.table_id ≡ place.old.table_id) }
+    ensures same { (place.new.table_id ≡ place.old.table_id) × (place.new.id ≡ place.old.id) }
+    ensures table { result.table_id ≡ place.old.table_id }
     ensures stays { place.new.me ≡ (staying (record place.old.me.0 { offer = parts }), []) }
     ensures leaves { result.me ≡ (leaving (record place.old.me.0 { offer = parts }), []) }
 {
@@ -161,8 +162,10 @@ pub(crate) fn cut<O: Object>(top: &Top<O>, place: &mut Place<O>, parts: u64) -> 
 
 /// Makes one seat of two. What is told of the two lists is learned by a load.
 pub(crate) fn merge<O: Object>(top: &Top<O>, place: &mut Place<O>, other: Place<O>)
-    requires table { (place.old.table_id ≡ top.now.table_id) × (other.table_id ≡ top.now.table_id) × IsLock top.now.table_id }
-    requires free { (place.old.me.0.stage ≡ Free) × (place.old.me.1 ≡ []) × (other.me.0.stage ≡ Free) × (other.me.1 ≡ []) }
+    requires table { (place.old.table_id ≡ top.now.table_id) × IsLock top.now.table_id }
+    requires other { other.table_id ≡ top.now.table_id }
+    requires free { (place.old.me.0.stage ≡ Free) × (place.old.me.1 ≡ []) }
+    requires other_free { (other.me.0.stage ≡ Free) × (other.me.1 ≡ []) }
     ensures same { (place.new.table_id ≡ place.old.table_id) × (place.new.id ≡ place.old.id) }
     ensures merged { place.new.me ≡ (record (merged place.old.me.0 other.me.0) { told = [] }, []) }
     ensures told { IsPrefix (shorter place.old.me.0.at.seen other.me.0.at.seen) (longer place.old.me.0.at.seen other.me.0.at.seen) }

@@ -1,6 +1,6 @@
 use Rattle.std.proofs.Common.{rules, arith}
 use Rattle.history_lock.proofs.Keeping.{offers-allowed, exchange-same}
-use Rattle.history_lock.proofs.Parts.{may-split}
+use Rattle.history_lock.proofs.Joining.{may-split}
 use Rattle.history_lock.proofs.steps.cut.Goals as goal
 
 pub compare_exchange-requires : goal.compare_exchange-requires

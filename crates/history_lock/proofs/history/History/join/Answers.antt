@@ -1,5 +1,5 @@
 use Rattle.std.proofs.Common.{ap}
-use Rattle.history_lock.proofs.Parts.{was-joined}
+use Rattle.history_lock.proofs.Joining.{was-joined}
 use Rattle.history_lock.proofs.history.History.join.Goals as goal
 
 pub returns-clause-joined : goal.returns-clause-joined

@@ -1,0 +1,31 @@
+-- A history that is one entry longer.
+use Rattle.std.proofs.Common.{◌≡◌, ℕ, List, [], ◌∷◌, ◌++◌, refl, subst}
+use Rattle.history_lock.specs.declared.entry.Entry.{Entry}
+use Rattle.history_lock.specs.Legal.{replay, count_after, legal}
+
+module _ {S C R : Type 0} (next : S → C → R → S) where
+  -- the state after two lists
+  pub replay-append : (s : S) (es fs : List (Entry C R)) → replay next s (es ++ fs) ≡ replay next (replay next s es) fs
+  replay-append s [] fs = refl
+  replay-append s (e ∷ es) fs = replay-append (next s e.call e.reply) es fs
+
+module _ {C R : Type 0} where
+  -- the count after two lists
+  pub count_after-append : (n : ℕ) (es fs : List (Entry C R)) → count_after n (es ++ fs) ≡ count_after (count_after n es) fs
+  count_after-append n [] fs = refl
+  count_after-append n (e ∷ es) fs = count_after-append e.after es fs
+
+module _ {S C R : Type 0} (allows : S → C → R → ℕ → ℕ → Type 0) (next : S → C → R → S) where
+  -- a history may be taken up where it stands
+  pub legal-append : (s : S) (n : ℕ) (es fs : List (Entry C R)) → legal allows next s n es → legal allows next (replay next s es) (count_after n es) fs → legal allows next s n (es ++ fs)
+  legal-append s n [] fs l m = m
+  legal-append s n (e ∷ es) fs l m = (l.0, l.1, legal-append (next s e.call e.reply) e.after es fs l.2 m)
+
+  -- the beginning of a legal history is legal
+  pub legal-front : (s : S) (n : ℕ) (es fs : List (Entry C R)) → legal allows next s n (es ++ fs) → legal allows next s n es
+  legal-front s n [] fs l = tt
+  legal-front s n (e ∷ es) fs l = (l.0, l.1, legal-front (next s e.call e.reply) e.after es fs l.2)
+
+  -- one call more
+  pub legal-more : (s : S) (n : ℕ) (es : List (Entry C R)) (e : Entry C R) → legal allows next s n es → e.before ≡ count_after n es → allows (replay next s es) e.call e.reply e.before e.after → legal allows next s n (es ++ e ∷ [])
+  legal-more s n es e l before may = legal-append s n es (e ∷ []) l (before, subst (λ k. allows (replay next s es) e.call e.reply k e.after) before may, tt)

@@ -1,0 +1,24 @@
+//! History: a lock whose calls stand in one list, of which each seat has seen a beginning.
+#![tactic(auto)]
+
+mod closed;
+mod entry;
+mod history;
+mod object;
+mod refused;
+mod rule;
+mod seat;
+mod solo;
+mod steps;
+#[cfg(test)]
+mod tests;
+mod view;
+
+pub use closed::{Closed, Past};
+pub use entry::{Entry, Who};
+pub use history::History;
+pub use object::Object;
+pub use refused::NoMemory;
+pub use seat::{Seat, Turn};
+pub use solo::Solo;
+pub use view::View;

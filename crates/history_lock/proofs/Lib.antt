@@ -9,6 +9,7 @@ pub mod Queue
 pub mod Keeping
 pub mod Whole
 pub mod Waiting
+pub mod Views
 pub mod Turns
 pub mod Logging
 pub mod Calls

@@ -1,11 +1,12 @@
-pub mod Sizes
-pub mod Texts
-pub mod Elements
 pub mod Steps
 pub mod Bytes
+pub mod Texts
+pub mod Elements
+pub mod Enclosed
 pub mod Numbers
 pub mod Names
+pub mod Plain
+pub mod PlainAgain
 pub mod Values
 pub mod Documents
 pub mod Answered
-pub mod Written

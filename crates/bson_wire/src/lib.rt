@@ -5,12 +5,8 @@ mod laws;
 mod pieces;
 mod reader;
 mod refused;
-mod writer;
+mod scalars;
 
-pub use laws::{no_spelling_begins_another, what_was_written_is_read_again};
+pub use laws::no_spelling_begins_another;
 pub use reader::{Front, read};
 pub use refused::ReadRefused;
-pub use writer::write;
-
-#[cfg(test)]
-mod tests;

@@ -10,3 +10,6 @@ pub mod PlainAgain
 pub mod Values
 pub mod Documents
 pub mod Answered
+pub mod Helds
+pub mod Sizes
+pub mod Written

@@ -2,9 +2,16 @@ ghost use Rattle.std.specs.Prelude.{◌≡◌, ◌++◌, ℕ, List};
 ghost use Rattle.bson_values.specs.declared.pairs.Pair.{Pair};
 ghost use Rattle.bson_values.specs.declared.value.Value.{Value};
 ghost use Rattle.bson_wire.specs.Grammar.{spells};
+ghost use Rattle.bson_wire.specs.Spellable.{IsSpellable};
+ghost use Rattle.bson_wire.specs.Spelling.{spell};
 
 /// Where two spellings stand at the front of the same bytes, they are one, of one document.
 pub fn no_spelling_begins_another()
     ensures { (a b x y : List ℕ) (m n : List (Pair Value)) → spells a m → spells b n
         → a ++ x ≡ b ++ y → (a ≡ b) × (m ≡ n) }
+{}
+
+/// What `write` appends is in the grammar, so `read` gives the document back, whatever follows.
+pub fn what_was_written_is_read_again()
+    ensures { (doc : List (Pair Value)) → IsSpellable doc → spells (spell doc) doc }
 {}

@@ -6,7 +6,9 @@ mod pieces;
 mod reader;
 mod refused;
 mod scalars;
+mod writer;
 
-pub use laws::no_spelling_begins_another;
+pub use laws::{no_spelling_begins_another, what_was_written_is_read_again};
 pub use reader::{Front, read};
 pub use refused::ReadRefused;
+pub use writer::write;

@@ -6,6 +6,7 @@ mod copying;
 mod list;
 mod memory;
 mod pairs;
+mod space;
 mod text;
 mod value;
 
@@ -13,6 +14,7 @@ pub use bytes::Bytes;
 pub use list::List;
 pub use memory::NoMemory;
 pub use pairs::{Pair, Pairs};
+pub use space::Space;
 pub use text::Text;
 pub use value::{Binary, Document, Regex, Value};
 

@@ -76,8 +76,7 @@ within_take : (levels : ℕ) → AreTaken (spells_within levels) (document_at le
 unfolding spells_within document_at array_at
 within_take zero = (λ end bytes found fits is. absurd (cc is), λ end bytes found fits is. absurd (cc is))
 within_take (suc levels) =
-    let inner = within_take levels in
-    (
+    let inner = within_take levels in (
       λ end bytes found fits is.
           let taken = enclosed_takes (spells_within levels) (document_at levels) (array_at levels) inner.0 inner.1 (λ pair. pair) end bytes found fits is in
           (taken.0, taken.1, subst (λ (doc : Doc). Encloses (spells_within levels) taken.0 doc) (sym (all_kept taken.2.0) ∙ taken.2.2) taken.2.1),
@@ -88,8 +87,7 @@ within_again : (levels : ℕ) → AreRead (spells_within levels) (document_at le
 unfolding spells_within document_at array_at
 within_again zero = (λ end spelling rest doc is. absurd is, λ end spelling rest items is. absurd is.1)
 within_again (suc levels) =
-    let inner = within_again levels in
-    (
+    let inner = within_again levels in (
       λ end spelling rest doc is. enclosed_again (spells_within levels) (document_at levels) (array_at levels) inner.0 inner.1 (λ pair. pair) end spelling rest doc is ∙ ap (λ (it : Doc). Ok (it, rest)) (all_kept doc),
       λ end spelling rest items is. enclosed_again (spells_within levels) (document_at levels) (array_at levels) inner.0 inner.1 (λ pair. pair.value) end spelling rest is.0 is.1 ∙ ap (λ (it : List Value). Ok (it, rest)) is.2,
     )

@@ -13,3 +13,4 @@ pub mod Answered
 pub mod Helds
 pub mod Sizes
 pub mod Written
+pub mod Lengths

@@ -112,10 +112,10 @@ module _ (IsDocument : List ℕ → List (Pair Value) → Type 0) where
         | inl is_no ↦ at_found (Held 8 bytes) (value.Bool false, part.0.1) found is_no.1
             (bool_made bytes part.0.0 part.0.1 false parted.0 (alone part.0.0 parted.1 ∙ ap (λ (b : ℕ). b ∷ []) (eqb-true byte 0 is_no.0)))
         | inr other ↦ elim (chosen (eqb byte 1) (Ok (value.Bool true, part.0.1)) _ (Ok found) other.1) [
-            | inl is_yes ↦ at_found (Held 8 bytes) (value.Bool true, part.0.1) found is_yes.1
-                (bool_made bytes part.0.0 part.0.1 true parted.0 (alone part.0.0 parted.1 ∙ ap (λ (b : ℕ). b ∷ []) (eqb-true byte 1 is_yes.0)))
-            | inr neither ↦ absurd (cc neither.1)
-          ]
+          | inl is_yes ↦ at_found (Held 8 bytes) (value.Bool true, part.0.1) found is_yes.1
+              (bool_made bytes part.0.0 part.0.1 true parted.0 (alone part.0.0 parted.1 ∙ ap (λ (b : ℕ). b ∷ []) (eqb-true byte 1 is_yes.0)))
+          | inr neither ↦ absurd (cc neither.1)
+        ]
       ]
 
   regex_takes : (place : ℕ) (bytes : List ℕ) (found : Value × List ℕ) → regex_at place bytes ≡ Ok found → Held 11 bytes found

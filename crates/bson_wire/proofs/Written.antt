@@ -6,7 +6,6 @@ use Rattle.std.proofs.lemmas.Fmt.{decimal_by_steps, IsAscii-decimal}
 use Rattle.std.proofs.lemmas.Str.{IsUtf8-from_ascii}
 use Rattle.std.proofs.lemmas.List.Concat.{flat_map-cons}
 use Rattle.std.proofs.lemmas.List.Elements.{All-head, All-tail, All-nil, All-cons, All-push}
-use Rattle.byteorder.specs.Numbers.{length-bytes_low_first}
 use Rattle.bson_values.specs.declared.pairs.Pair.{Pair}
 use Rattle.bson_values.specs.declared.value.Value.{Value}
 use Rattle.bson_values.specs.declared.value.Value.TheViews.{out-Value}
@@ -15,7 +14,7 @@ use Rattle.bson_wire.specs.Spelling.{int32, cstring, string, binary, held, eleme
 use Rattle.bson_wire.specs.Grammar.{IsName, IsArray, IsValue, IsElement, AreElements, Encloses, values, spells_within, spells}
 use Rattle.bson_wire.specs.Spellable.{HasSpelling, IsSpellable}
 use Rattle.bson_wire.proofs.Helds.{held_layer, held_is}
-use Rattle.bson_wire.proofs.Sizes.{length-element_of}
+use Rattle.bson_wire.proofs.Sizes.{length-string, length-binary, length-enclosed, length-element_of}
 use Rattle.bson_wire.proofs.Values.{Doc}
 
 -- ---- names of items
@@ -39,20 +38,6 @@ named_from place (item ∷ items) = record { name = decimal place; value = item 
 values_named : (place : ℕ) (items : List Value) → values (named_from place items) ≡ items
 values_named place [] = refl
 values_named place (item ∷ items) = ap (λ (rest : List Value). item ∷ rest) (values_named (place + 1) items)
-
--- ---- lengths
-
-length-string : (text : List ℕ) → length (string text) ≡ length text + 5
-length-string text =
-    omega (arith, length-append (int32 (length text + 1)) (cstring text), length-append text (0 ∷ []), length-bytes_low_first 0 4 (length text + 1))
-
-length-binary : (subtype : ℕ) (bytes : List ℕ) → length (binary subtype bytes) ≡ length bytes + 5
-length-binary subtype bytes = omega (arith, length-append (int32 (length bytes)) (subtype ∷ bytes), length-bytes_low_first 0 4 (length bytes))
-
-length-enclosed : (inside : List ℕ) → length (enclosed inside) ≡ length inside + 5
-length-enclosed inside =
-    let stated = int32 (length inside + 5) in
-    omega (arith, length-append (stated ++ inside) (0 ∷ []), length-append stated inside, length-bytes_low_first 0 4 (length inside + 5))
 
 -- ---- what is within a level
 

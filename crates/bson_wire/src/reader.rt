@@ -22,7 +22,14 @@ pub struct Front {
 /// A value behind its type byte, which stands at `place`. All bytes end at `end`.
 #[tactic(auto, unfolding(crate::specs::Reading::value_at))]
 #[cycle(reader)]
-fn value(alloc: Global, code: u8, bytes: &[u8], place: u64, end: u64, levels: u32) -> Result<(Value, &[u8]), ReadRefused>
+fn value(
+    alloc: Global,
+    code: u8,
+    bytes: &[u8],
+    place: u64,
+    end: u64,
+    levels: u32,
+) -> Result<(Value, &[u8]), ReadRefused>
     requires { length bytes.now ≤ end }
     ensures value { Gives (λ it. (it.0, it.1.now)) result
         (value_at (document_at levels) (array_at levels) end place code bytes.now) }
@@ -44,7 +51,13 @@ fn value(alloc: Global, code: u8, bytes: &[u8], place: u64, end: u64, levels: u3
 /// The name and the value of an element, behind its type byte.
 #[tactic(auto, unfolding(crate::specs::Reading::element_at))]
 #[cycle(reader)]
-fn element(alloc: Global, code: u8, bytes: &[u8], end: u64, levels: u32) -> Result<(&str, Value, &[u8]), ReadRefused>
+fn element(
+    alloc: Global,
+    code: u8,
+    bytes: &[u8],
+    end: u64,
+    levels: u32,
+) -> Result<(&str, Value, &[u8]), ReadRefused>
     requires { length bytes.now < end }
     ensures value { Gives (λ it. (record { name = it.0.now; value = it.1 }, it.2.now)) result
         (element_at (document_at levels) (array_at levels) end code bytes.now) }
@@ -119,7 +132,12 @@ fn items(alloc: Global, bytes: &[u8], end: u64, levels: u32) -> Result<List<Valu
 
 #[tactic(auto, unfolding(crate::specs::Reading::document_at, crate::specs::Reading::enclosed_at))]
 #[cycle(reader)]
-fn document(alloc: Global, bytes: &[u8], end: u64, levels: u32) -> Result<(Document, &[u8]), ReadRefused>
+fn document(
+    alloc: Global,
+    bytes: &[u8],
+    end: u64,
+    levels: u32,
+) -> Result<(Document, &[u8]), ReadRefused>
     requires { length bytes.now ≤ end }
     ensures value { Gives (λ it. (it.0, it.1.now)) result (document_at levels end bytes.now) }
     ensures shorter { IfOk result (λ it. length it.1.now ≤ length bytes.now) }
@@ -143,7 +161,12 @@ fn document(alloc: Global, bytes: &[u8], end: u64, levels: u32) -> Result<(Docum
 
 #[tactic(auto, unfolding(crate::specs::Reading::array_at, crate::specs::Reading::enclosed_at))]
 #[cycle(reader)]
-fn array(alloc: Global, bytes: &[u8], end: u64, levels: u32) -> Result<(List<Value>, &[u8]), ReadRefused>
+fn array(
+    alloc: Global,
+    bytes: &[u8],
+    end: u64,
+    levels: u32,
+) -> Result<(List<Value>, &[u8]), ReadRefused>
     requires { length bytes.now ≤ end }
     ensures value { Gives (λ it. (it.0, it.1.now)) result (array_at levels end bytes.now) }
     ensures shorter { IfOk result (λ it. length it.1.now ≤ length bytes.now) }

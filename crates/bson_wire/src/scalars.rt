@@ -163,7 +163,12 @@ fn regex(alloc: Global, bytes: &[u8], place: u64) -> Result<(Value, &[u8]), Read
 
 /// A value of a type that holds no values.
 #[tactic(auto, unfolding(crate::specs::Reading::scalar_at))]
-pub(crate) fn scalar(alloc: Global, code: u8, bytes: &[u8], place: u64) -> Result<(Value, &[u8]), ReadRefused>
+pub(crate) fn scalar(
+    alloc: Global,
+    code: u8,
+    bytes: &[u8],
+    place: u64,
+) -> Result<(Value, &[u8]), ReadRefused>
     ensures value { Gives (λ it. (it.0, it.1.now)) result (scalar_at place code bytes.now) }
     ensures shorter { IfOk result (λ it. length it.1.now ≤ length bytes.now) }
 {

@@ -70,4 +70,3 @@ pub array-returns-in-Err-clause-value : goal.array-returns-in-Err-clause-value
 array-returns-in-Err-clause-value t c =
     fails-on _ _ _ c.in-Err.ensures (λ place bad. array-inner _ (c.args.levels - 1) _ _ (omega arith)
     ∙ enclosed-bad _ _ _ _ _ _ _ _ _ _ c.in_ok-len.ensures.value c.in_ok-whole.ensures.value c.head.ensures place bad)
-

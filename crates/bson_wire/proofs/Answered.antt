@@ -7,7 +7,7 @@ use Rattle.bson_values.specs.declared.value.Value.{Value}
 use Rattle.bson_wire.specs.declared.refused.ReadRefused.{ReadRefused}
 use Rattle.bson_wire.specs.declared.refused.ReadRefused.TheVariants.{Malformed, NoMemory}
 use Rattle.bson_wire.specs.Grammar.{spells}
-use Rattle.bson_wire.specs.Reading.{Fails, document_at, fault_of, fault, Tells}
+use Rattle.bson_wire.specs.Reading.{Fails, document_at, fault_of, Tells}
 use Rattle.bson_wire.proofs.Steps.{same_Ok}
 use Rattle.bson_wire.proofs.Bytes.{IsBytes}
 use Rattle.bson_wire.proofs.Documents.{document_takes, document_again}

@@ -1,9 +1,9 @@
 -- Values that hold no values: what is read is spelled so, and what is spelled so is read.
-use Rattle.std.proofs.Common.{◌≡◌, ℕ, ℤ, ◌+◌, ◌^◌, ◌<◌, Bool, true, false, eqb, cond, List, [], ◌∷◌, ◌++◌, length, length-append, drop, refl, sym, ap, subst, ◌∙◌, append_assoc, arith, ◌⊎◌, inl, inr}
+use Rattle.std.proofs.Common.{◌≡◌, ℕ, ◌+◌, ◌^◌, ◌<◌, Bool, true, false, eqb, cond, List, [], ◌∷◌, ◌++◌, length, length-append, drop, refl, sym, ap, subst, ◌∙◌, arith, ◌⊎◌, inl, inr}
 use Rattle.std.specs.Prelude.{Result, Ok, Err, slice_index}
-use Rattle.std.specs.Int.{w32, w64, cast_signed, cast_unsigned}
+use Rattle.std.specs.Int.{w32, w64, cast_signed}
 use Rattle.std.proofs.lemmas.Bool.{eqb-true}
-use Rattle.std.proofs.lemmas.Int.{ints, to_z-of_z, of_z-to_z}
+use Rattle.std.proofs.lemmas.Int.{ints, of_z-to_z}
 use denote.Hole.Carrier.{out}
 use Rattle.bson_values.specs.declared.pairs.Pair.{Pair}
 use Rattle.bson_values.specs.declared.value.Binary.{Binary}
@@ -12,13 +12,13 @@ use Rattle.bson_values.specs.declared.value.Value.{Value}
 use Rattle.bson_values.specs.declared.value.Value.TheViews.{out-Value}
 use Rattle.bson_values.specs.declared.value.Value.TheVariants as value
 use Rattle.bson_wire.specs.Spelling.{int32, int64, cstring, string, bool, binary}
-use Rattle.bson_wire.specs.Grammar.{IsName, IsString, IsBinary, IsRegex, IsInt, IsLong, IsStamp, IsValue}
+use Rattle.bson_wire.specs.Grammar.{IsInt, IsLong, IsValue}
 use Rattle.bson_wire.specs.Reading.{◌>>=◌, number_at, long_at, length_at, part_at, ended_at, text_of, name_at, string_at, binary_at, id_at, bool_at, regex_at, int_at, date_at, stamp_at, int64_at, scalar_at}
 use Rattle.bson_wire.proofs.Steps.{bind_ok, at_found}
-use Rattle.bson_wire.proofs.Bytes.{IsBytes, IsBytes-rest, Takes, regrouped}
-use Rattle.bson_wire.proofs.Texts.{text_again, text_takes}
-use Rattle.bson_wire.proofs.Numbers.{number_takes, number_again, long_takes, long_again, length_takes, length_again}
-use Rattle.bson_wire.proofs.Names.{name_takes, name_again, part_takes, part_again, ended_takes, ended_again}
+use Rattle.bson_wire.proofs.Bytes.{IsBytes, Takes, regrouped}
+use Rattle.bson_wire.proofs.Texts.{text_takes}
+use Rattle.bson_wire.proofs.Numbers.{number_takes, long_takes, length_takes}
+use Rattle.bson_wire.proofs.Names.{name_takes, part_takes, ended_takes}
 
 -- ---- what one byte and more are
 

@@ -1,15 +1,14 @@
 -- Values that hold no values: what is spelled so is read.
-use Rattle.std.proofs.Common.{◌≡◌, ℕ, ℤ, ◌+◌, ◌^◌, ◌<◌, Bool, true, false, List, [], ◌∷◌, ◌++◌, length, length-append, refl, sym, ap, ◌∙◌, append_assoc, arith}
-use Rattle.std.specs.Prelude.{Result, Ok, Err}
-use Rattle.std.specs.Int.{w32, w64, cast_signed, cast_unsigned}
+use Rattle.std.proofs.Common.{◌≡◌, ℕ, ℤ, ◌+◌, Bool, true, false, List, [], ◌∷◌, ◌++◌, length, length-append, refl, ap, ◌∙◌, append_assoc, arith}
+use Rattle.std.specs.Prelude.{Ok}
+use Rattle.std.specs.Int.{w32, w64, cast_unsigned}
 use Rattle.std.proofs.lemmas.Int.{ints, to_z-of_z}
 use Rattle.bson_values.specs.declared.value.Binary.{Binary}
 use Rattle.bson_values.specs.declared.value.Regex.{Regex}
-use Rattle.bson_values.specs.declared.value.Value.{Value}
 use Rattle.bson_values.specs.declared.value.Value.TheVariants as value
-use Rattle.bson_wire.specs.Spelling.{int32, int64, cstring, string, bool, binary}
+use Rattle.bson_wire.specs.Spelling.{int32, cstring, bool}
 use Rattle.bson_wire.specs.Grammar.{IsString, IsBinary, IsRegex, IsInt, IsLong, IsStamp}
-use Rattle.bson_wire.specs.Reading.{◌>>=◌, number_at, long_at, string_at, binary_at, id_at, bool_at, regex_at, int_at, date_at, stamp_at, int64_at}
+use Rattle.bson_wire.specs.Reading.{number_at, long_at, string_at, binary_at, id_at, bool_at, regex_at, int_at, date_at, stamp_at, int64_at}
 use Rattle.bson_wire.proofs.Texts.{text_again}
 use Rattle.bson_wire.proofs.Numbers.{number_again, long_again, length_again}
 use Rattle.bson_wire.proofs.Names.{name_again, part_again, ended_again}

@@ -1,5 +1,5 @@
 -- What is written is in the grammar.
-use Rattle.std.proofs.Common.{◌≡◌, ◌≢◌, ℕ, zero, suc, ◌+◌, ◌*◌, ◌/◌, ◌%◌, ◌^◌, ◌<◌, ◌≤◌, List, [], ◌∷◌, ◌++◌, length, length-append, map, All, refl, sym, ap, subst, ◌∙◌, arith}
+use Rattle.std.proofs.Common.{◌≡◌, ◌≢◌, ℕ, zero, suc, ◌+◌, ◌%◌, ◌^◌, ◌<◌, List, [], ◌∷◌, ◌++◌, length, length-append, map, All, refl, sym, ap, subst, ◌∙◌, arith}
 use Rattle.std.specs.Fmt.{decimal}
 use Rattle.std.specs.List.{flat_map}
 use Rattle.std.proofs.lemmas.Fmt.{decimal_by_steps, IsAscii-decimal}
@@ -10,8 +10,8 @@ use Rattle.bson_values.specs.declared.pairs.Pair.{Pair}
 use Rattle.bson_values.specs.declared.value.Value.{Value}
 use Rattle.bson_values.specs.declared.value.Value.TheViews.{out-Value}
 use Rattle.bson_values.specs.declared.value.Value.TheOpen.{Value-F}
-use Rattle.bson_wire.specs.Spelling.{int32, cstring, string, binary, held, element_of, items_from, element, enclosed, spell}
-use Rattle.bson_wire.specs.Grammar.{IsName, IsArray, IsValue, IsElement, AreElements, Encloses, values, spells_within, spells}
+use Rattle.bson_wire.specs.Spelling.{int32, held, items_from, element, enclosed, spell}
+use Rattle.bson_wire.specs.Grammar.{IsName, IsArray, IsValue, IsElement, AreElements, values, spells_within, spells}
 use Rattle.bson_wire.specs.Spellable.{HasSpelling, IsSpellable}
 use Rattle.bson_wire.proofs.Helds.{held_layer, held_is}
 use Rattle.bson_wire.proofs.Sizes.{length-string, length-binary, length-enclosed, length-element_of}

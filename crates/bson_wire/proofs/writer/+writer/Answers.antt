@@ -1,7 +1,5 @@
-use Rattle.std.proofs.Common.{rules, arith, ◌<◌, ◌^◌, length, ap}
-use Rattle.std.specs.List.{flat_map}
+use Rattle.std.proofs.Common.{rules, arith}
 use Rattle.bson_values.specs.declared.value.Value.TheViews.{the_lemmas}
-use Rattle.bson_wire.specs.Spelling.{held, element, items_from}
 use Rattle.bson_wire.proofs.Helds.{doc-held}
 use Rattle.bson_wire.proofs.Sizes.{element-below, item-below}
 use Rattle.bson_wire.proofs.writer.+writer.Goals as goal

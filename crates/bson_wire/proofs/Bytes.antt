@@ -26,7 +26,7 @@ pub regrouped : (whole first middle second rest : List ℕ) → whole ≡ first 
 regrouped whole first middle second rest one two = one ∙ ap (λ (part : List ℕ). first ++ part) two ∙ sym (append_assoc first second rest)
 
 -- a 00 byte ends what stands before it
-pub nul_at : (bytes : List ℕ) (place : ℕ) → place < length bytes → get_or bytes place 0 ≡ 0 → bytes ≡ cstring (take place bytes) ++ drop (place + 1) bytes
-nul_at bytes place within nul =
+pub nul_ends : (bytes : List ℕ) (place : ℕ) → place < length bytes → get_or bytes place 0 ≡ 0 → bytes ≡ cstring (take place bytes) ++ drop (place + 1) bytes
+nul_ends bytes place within nul =
     sym (take-append-drop place bytes) ∙ ap (λ (part : List ℕ). take place bytes ++ part) (drop_more bytes place 0 within ∙ ap (λ (byte : ℕ). byte ∷ drop (place + 1) bytes) nul)
     ∙ sym (append_assoc (take place bytes) (0 ∷ []) (drop (place + 1) bytes))

@@ -1,25 +1,27 @@
--- Steps that may find nothing.
-use Rattle.std.proofs.Common.{◌≡◌, Bool, true, false, refl, subst}
-use Rattle.std.proofs.lemmas.Option.{same_Some}
-use Rattle.std.specs.Prelude.{Option, Some, None, if◌then◌else◌}
+-- Steps that may find a fault.
+use Rattle.std.proofs.Common.{◌≡◌, ℕ, Bool, true, false, refl, subst}
+use Rattle.std.specs.Prelude.{Result, Ok, Err, if◌then◌else◌}
 use Rattle.bson_wire.specs.Reading.{◌>>=◌}
 
+pub same_Ok : {A : Type 0} (x y : A) → ◌≡◌ {A = Result A ℕ} (Ok x) (Ok y) → x ≡ y
+same_Ok x y is = cc
+
 -- where two steps found a value, the first found one for the second
-pub bind_some : {A B : Type 0} (found : Option A) (next : A → Option B) (value : B) → (found >>= next) ≡ Some value
-    → (first : A) × (found ≡ Some first) × (next first ≡ Some value)
-bind_some (Some first) next value is = (first, refl, is)
-bind_some None next value is = absurd cc
+pub bind_ok : {A B : Type 0} (found : Result A ℕ) (next : A → Result B ℕ) (value : B) → (found >>= next) ≡ Ok value
+    → (first : A) × (found ≡ Ok first) × (next first ≡ Ok value)
+bind_ok (Ok first) next value is = (first, refl, is)
+bind_ok (Err place) next value is = absurd cc
 
 -- a test that did not refuse
-pub unless_some : {A : Type 0} (refuse : Bool) (found : Option A) (value : A) → (if refuse then None else found) ≡ Some value → (refuse ≡ false) × (found ≡ Some value)
-unless_some true found value is = absurd cc
-unless_some false found value is = (refl, is)
+pub unless_ok : {A : Type 0} (refuse : Bool) (place : ℕ) (found : Result A ℕ) (value : A) → (if refuse then Err place else found) ≡ Ok value → (refuse ≡ false) × (found ≡ Ok value)
+unless_ok true place found value is = absurd cc
+unless_ok false place found value is = (refl, is)
 
 -- a test that held
-pub when_some : {A : Type 0} (test : Bool) (found : Option A) (value : A) → (if test then found else None) ≡ Some value → (test ≡ true) × (found ≡ Some value)
-when_some true found value is = (refl, is)
-when_some false found value is = absurd cc
+pub when_ok : {A : Type 0} (test : Bool) (place : ℕ) (found : Result A ℕ) (value : A) → (if test then found else Err place) ≡ Ok value → (test ≡ true) × (found ≡ Ok value)
+when_ok true place found value is = (refl, is)
+when_ok false place found value is = absurd cc
 
 -- what holds of the value made holds of the value found
-pub at_found : {A : Type 0} (Holds : A → Type 0) (made found : A) → ◌≡◌ {A = Option A} (Some made) (Some found) → Holds made → Holds found
-at_found Holds made found is holds = subst Holds (same_Some made found is) holds
+pub at_found : {A : Type 0} (Holds : A → Type 0) (made found : A) → ◌≡◌ {A = Result A ℕ} (Ok made) (Ok found) → Holds made → Holds found
+at_found Holds made found is holds = subst Holds (same_Ok made found is) holds

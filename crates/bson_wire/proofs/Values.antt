@@ -1,109 +1,135 @@
--- Values and elements: what is read is spelled so, and what is spelled so is read.
-use Rattle.std.proofs.Common.{◌≡◌, ℕ, ℤ, ◌+◌, ◌^◌, ◌<◌, Bool, true, false, eqb, cond, List, ◌∷◌, ◌++◌, length, refl, sym, ap, ◌∙◌, append_assoc, arith, ◌⊎◌, inl, inr}
-use Rattle.std.specs.Prelude.{Option, Some}
-use Rattle.std.specs.Int.{w32, cast_signed, cast_unsigned}
-use Rattle.std.proofs.lemmas.Bool.{eqb-true}
-use Rattle.std.proofs.lemmas.Int.{ints, to_z-of_z, of_z-to_z}
+-- Values and elements, where documents and arrays in them are read so: what is read is spelled so, and what is spelled so is read.
+use Rattle.std.proofs.Common.{◌≡◌, ℕ, zero, suc, ◌+◌, ◌-◌, ◌<◌, List, [], ◌∷◌, ◌++◌, length, map, refl, sym, ap, subst, ◌∙◌, append_assoc, arith}
+use Rattle.std.specs.Prelude.{Result, Ok}
+use Rattle.std.proofs.lemmas.List.{length-append}
 use Rattle.bson_values.specs.declared.pairs.Pair.{Pair}
-use denote.Hole.Carrier.{out}
 use Rattle.bson_values.specs.declared.value.Value.{Value}
-use Rattle.bson_values.specs.declared.value.Value.TheViews.{out-Value}
+use Rattle.bson_values.specs.declared.value.Value.TheViews.{out-Value, roll-Value, roll-out-Value}
+use Rattle.bson_values.specs.declared.value.Value.TheOpen.{Value-F}
 use Rattle.bson_values.specs.declared.value.Value.TheVariants as value
-use Rattle.bson_wire.specs.Spelling.{int32, cstring, string}
-use Rattle.bson_wire.specs.Grammar.{IsString, IsInt, IsValue, IsElement}
-use Rattle.bson_wire.specs.Reading.{◌>>=◌, number_at, length_at, text_of, name_at, ended_at, string_at, value_at, element_at}
-use Rattle.bson_wire.proofs.Steps.{bind_some, when_some, at_found}
+use Rattle.bson_wire.specs.Spelling.{cstring}
+use Rattle.bson_wire.specs.Grammar.{IsArray, IsValue, IsElement, AreElements}
+use Rattle.bson_wire.specs.Reading.{◌>>=◌, name_at, scalar_at, value_at, element_at, elements_at}
+use Rattle.bson_wire.proofs.Steps.{same_Ok, bind_ok, at_found}
 use Rattle.bson_wire.proofs.Bytes.{IsBytes, IsBytes-rest, Takes, regrouped}
-use Rattle.bson_wire.proofs.Texts.{text_again, text_takes}
-use Rattle.bson_wire.proofs.Numbers.{number_takes, number_again, length_takes, length_again}
-use Rattle.bson_wire.proofs.Names.{name_takes, name_again, ended_takes, ended_again}
+use Rattle.bson_wire.proofs.Names.{name_takes, name_again}
+use Rattle.bson_wire.proofs.Plain.{IsHeld, Held, by_code, scalar_takes}
+use Rattle.bson_wire.proofs.PlainAgain.{string_again, binary_again, id_again, bool_again, regex_again, int_again, date_again, long_value_again, stamp_again}
 
--- ---- strings
+abbrev pub Doc : Type 0
+Doc = List (Pair Value)
 
--- a stated length, that many bytes with their 00, and the rest are a string and the rest
-string_made : (bytes : List ℕ) (stated : ℕ) (after content rest text : List ℕ) → bytes ≡ int32 stated ++ after → after ≡ cstring content ++ rest → length content + 1 ≡ stated → content ≡ text
-    → bytes ≡ string text ++ rest
-string_made bytes stated after content rest text front ended counted same =
-    let spelling : int32 stated ++ cstring content ≡ string text = ap (λ (n : ℕ). int32 n ++ cstring content) (sym counted) ∙ ap string same in
-    regrouped bytes (int32 stated) after (cstring content) rest front ended ∙ ap (λ (it : List ℕ). it ++ rest) spelling
+-- what such a reading function reads is spelled so
+abbrev pub AreTaken : {A : Type 0} → (List ℕ → A → Type 0) → (ℕ → List ℕ → Result (A × List ℕ) ℕ) → Type 0
+AreTaken {A} IsSpelling reading = (end : ℕ) (bytes : List ℕ) (found : A × List ℕ) → IsBytes bytes → reading end bytes ≡ Ok found → Takes IsSpelling bytes found
 
-pub string_takes : (bytes : List ℕ) (found : List ℕ × List ℕ) → IsBytes bytes → string_at bytes ≡ Some found → Takes IsString bytes found
-unfolding string_at
-string_takes bytes found fits is =
-    let number = bind_some (length_at 1 bytes) (λ n. ended_at n.0 n.1 >>= λ content. text_of content.0 >>= λ text. Some (text, content.1)) found is in
-    let content = bind_some (ended_at number.0.0 number.0.1) (λ content. text_of content.0 >>= λ text. Some (text, content.1)) found number.2 in
-    let text = bind_some (text_of content.0.0) (λ text. Some (text, content.0.1)) found content.2 in
-    let stated = length_takes 1 bytes number.0 fits number.1 in
-    let ended = ended_takes number.0.0 number.0.1 content.0 (omega arith) content.1 in
-    let utf8 = text_takes content.0.0 text.0 text.1 in
-    let whole = string_made bytes number.0.0 number.0.1 content.0.0 content.0.1 text.0 stated.0 ended.0 ended.1 utf8.0 in
-    let small : length text.0 + 1 < 2 ^ 31 = omega (arith, ap length utf8.0) in
-    at_found (Takes IsString bytes) (text.0, content.0.1) found text.2 (string text.0, whole, record { utf8 = utf8.1; small = small; whole = refl })
+-- what is spelled so is read by it
+abbrev pub AreRead : {A : Type 0} → (List ℕ → A → Type 0) → (ℕ → List ℕ → Result (A × List ℕ) ℕ) → Type 0
+AreRead {A} IsSpelling reading = (end : ℕ) (spelling rest : List ℕ) (it : A) → IsSpelling spelling it → reading end (spelling ++ rest) ≡ Ok (it, rest)
 
-pub string_again : (spelling text rest : List ℕ) → IsString spelling text → string_at (spelling ++ rest) ≡ Some (text, rest)
-unfolding string_at
-string_again spelling text rest is =
-    let regroup : spelling ++ rest ≡ int32 (length text + 1) ++ (cstring text ++ rest) = ap (λ (it : List ℕ). it ++ rest) is.whole ∙ append_assoc (int32 (length text + 1)) (cstring text) rest in
-    ap string_at regroup ∙ rw (length_again 1 (length text + 1) (cstring text ++ rest) (omega arith) is.small, ended_again (length text + 1) text rest refl, text_again text is.utf8) refl
+module _ (IsDocument : List ℕ → Doc → Type 0) (document : ℕ → List ℕ → Result (Doc × List ℕ) ℕ) (array : ℕ → List ℕ → Result (List Value × List ℕ) ℕ) where
+  -- ---- values
 
--- ---- values
+  held_doc : (content : List ℕ) (pairs : Doc) → IsDocument content pairs → IsHeld IsDocument 3 content (value.Doc pairs)
+  held_doc content pairs is = subst (λ (layer : Value-F Value). IsValue IsDocument 3 content layer) (sym (value.outs-Doc pairs)) (refl, is)
 
--- which way a test went
-chosen : {A : Type 0} (test : Bool) (one other found : A) → cond test one other ≡ found → ((test ≡ true) × (one ≡ found)) ⊎ ((test ≡ false) × (other ≡ found))
-chosen true one other found is = inl (refl, is)
-chosen false one other found is = inr (refl, is)
+  held_arr : (content : List ℕ) (items : List Value) → IsArray IsDocument content items → IsHeld IsDocument 4 content (value.Arr items)
+  held_arr content items is = subst (λ (layer : Value-F Value). IsValue IsDocument 4 content layer) (sym (value.outs-Arr items)) (refl, is)
 
-int_takes : (bits : ℕ) → bits < 2 ^ 32 → IsInt (int32 bits) (cast_signed w32 bits)
-int_takes bits below = record { fits = omega (arith, ints); whole = ap int32 (sym (of_z-to_z w32 bits below)) }
+  doc_takes : AreTaken IsDocument document → (end : ℕ) (bytes : List ℕ) (found : Value × List ℕ) → IsBytes bytes → (document end bytes >>= λ doc. Ok (value.Doc doc.0, doc.1)) ≡ Ok found → Held IsDocument 3 bytes found
+  doc_takes docs end bytes found fits is =
+      let doc = bind_ok (document end bytes) (λ doc. Ok (value.Doc doc.0, doc.1)) found is in
+      let taken = docs end bytes doc.0 fits doc.1 in
+      at_found (Held IsDocument 3 bytes) (value.Doc doc.0.0, doc.0.1) found doc.2 (taken.0, taken.1, held_doc taken.0 doc.0.0 taken.2)
 
--- the value behind a type byte
-abbrev IsHeld : ℕ → List ℕ → Value → Type 0
-IsHeld code content it = IsValue code content (out-Value it)
+  arr_takes : AreTaken (IsArray IsDocument) array → (end : ℕ) (bytes : List ℕ) (found : Value × List ℕ) → IsBytes bytes → (array end bytes >>= λ items. Ok (value.Arr items.0, items.1)) ≡ Ok found → Held IsDocument 4 bytes found
+  arr_takes arrays end bytes found fits is =
+      let items = bind_ok (array end bytes) (λ items. Ok (value.Arr items.0, items.1)) found is in
+      let taken = arrays end bytes items.0 fits items.1 in
+      at_found (Held IsDocument 4 bytes) (value.Arr items.0.0, items.0.1) found items.2 (taken.0, taken.1, held_arr taken.0 items.0.0 taken.2)
 
-pub value_takes : (code : ℕ) (bytes : List ℕ) (found : Value × List ℕ) → IsBytes bytes → value_at code bytes ≡ Some found
-    → Takes (IsHeld code) bytes found
-unfolding value_at out-Value out
-value_takes code bytes found fits is =
-    elim (chosen (eqb code 2) _ _ (Some found) is) [
-      | inl is_string ↦
-          let text = bind_some (string_at bytes) (λ text. Some (value.Str text.0, text.1)) found is_string.1 in
-          let taken = string_takes bytes text.0 fits text.1 in
-          at_found (Takes (IsHeld code) bytes) (value.Str text.0.0, text.0.1) found text.2
-          (taken.0, taken.1, (eqb-true _ _ is_string.0, taken.2))
-      | inr other ↦
-          let int = when_some (eqb code 16) (number_at bytes >>= (λ n. Some (value.Int (cast_signed w32 n.0), n.1))) found other.1 in
-          let bits = bind_some (number_at bytes) (λ n. Some (value.Int (cast_signed w32 n.0), n.1)) found int.1 in
-          let taken = number_takes bytes bits.0 fits bits.1 in
-          at_found (Takes (IsHeld code) bytes) (value.Int (cast_signed w32 bits.0.0), bits.0.1) found bits.2
-          (int32 bits.0.0, taken.0, (eqb-true _ _ int.0, int_takes bits.0.0 taken.1))
-    ]
+  pub value_takes : AreTaken IsDocument document → AreTaken (IsArray IsDocument) array → (end place code : ℕ) (bytes : List ℕ) (found : Value × List ℕ) → IsBytes bytes → value_at document array end place code bytes ≡ Ok found
+      → Held IsDocument code bytes found
+  unfolding value_at
+  value_takes docs arrays end place code bytes found fits is =
+      by_code IsDocument 3 code _ _ bytes found is (doc_takes docs end bytes found fits)
+      (λ is. by_code IsDocument 4 code _ _ bytes found is (arr_takes arrays end bytes found fits)
+      (λ is. scalar_takes IsDocument place code bytes found fits is))
 
-pub value_again : (code : ℕ) (content : List ℕ) (it : Value) (rest : List ℕ) → IsHeld code content it → value_at code (content ++ rest) ≡ Some (it, rest)
-unfolding value_at out-Value out
-value_again code content (value.Str text) rest is = rw is.0 (ap (λ (found : Option (List ℕ × List ℕ)). found >>= λ text. Some (value.Str text.0, text.1)) (string_again content text rest is.1))
-value_again code content (value.Int number) rest is =
-    let bits : number_at (content ++ rest) ≡ Some (cast_unsigned w32 number, rest) = rw is.1.whole (number_again (cast_unsigned w32 number) rest (omega (arith, ints))) in
-    let back : cast_signed w32 (cast_unsigned w32 number) ≡ number = to_z-of_z w32 number is.1.fits in
-    rw is.0 (rw bits (ap (λ (n : ℤ). Some (value.Int n, rest)) back))
-value_again code content it rest is = absurd is
+  -- a value made of what was read in it
+  made : (rest : List ℕ) (it rolled : Value) → rolled ≡ it → ◌≡◌ {A = Result (Value × List ℕ) ℕ} (Ok (it, rest)) (Ok (rolled, rest))
+  made rest it rolled is = ap (λ (v : Value). Ok (v, rest)) (sym is)
 
--- ---- elements
+  layer_again : AreRead IsDocument document → AreRead (IsArray IsDocument) array → (end place code : ℕ) (content : List ℕ) (layer : Value-F Value) (rest : List ℕ) → IsValue IsDocument code content layer
+      → value_at document array end place code (content ++ rest) ≡ Ok (roll-Value layer, rest)
+  unfolding value_at scalar_at
+  layer_again docs arrays end place code content (Value-F.Str text) rest is = rw is.0 (string_again place content text rest is.1 ∙ made rest _ _ (value.rolls-Str text))
+  layer_again docs arrays end place code content (Value-F.Bin it) rest is = rw is.0 (binary_again place content it rest is.1 ∙ made rest _ _ (value.rolls-Bin it))
+  layer_again docs arrays end place code content (Value-F.Id id) rest is = rw is.0 (id_again place content id rest is.1 is.2 ∙ made rest _ _ (value.rolls-Id id))
+  layer_again docs arrays end place code content (Value-F.Bool truth) rest is = rw is.0 (bool_again place content truth rest is.1 ∙ made rest _ _ (value.rolls-Bool truth))
+  layer_again docs arrays end place code content (Value-F.Date moment) rest is = rw is.0 (date_again place content moment rest is.1 ∙ made rest _ _ (value.rolls-Date moment))
+  layer_again docs arrays end place code content (Value-F.Regex it) rest is = rw is.0 (regex_again place content it rest is.1 ∙ made rest _ _ (value.rolls-Regex it))
+  layer_again docs arrays end place code content (Value-F.Int number) rest is = rw is.0 (int_again place content number rest is.1 ∙ made rest _ _ (value.rolls-Int number))
+  layer_again docs arrays end place code content (Value-F.Stamp stamp) rest is = rw is.0 (stamp_again place content stamp rest is.1 ∙ made rest _ _ (value.rolls-Stamp stamp))
+  layer_again docs arrays end place code content (Value-F.Long number) rest is = rw is.0 (long_value_again place content number rest is.1 ∙ made rest _ _ (value.rolls-Long number))
+  layer_again docs arrays end place code content (Value-F.Doc pairs) rest is = rw (is.0, docs end content rest pairs is.1) (made rest _ _ (value.rolls-Doc pairs))
+  layer_again docs arrays end place code content (Value-F.Arr items) rest is = rw (is.0, arrays end content rest items is.1) (made rest _ _ (value.rolls-Arr items))
+  layer_again docs arrays end place code content Value-F.Null rest is = rw (is.0, is.1) (made rest _ _ value.rolls-Null)
 
-pub element_takes : (code : ℕ) (bytes : List ℕ) (found : Pair Value × List ℕ) → IsBytes bytes → element_at code bytes ≡ Some found
-    → Takes IsElement (code ∷ bytes) found
-unfolding element_at
-element_takes code bytes found fits is =
-    let name = bind_some (name_at bytes) (λ name. value_at code name.1 >>= λ v. Some (record { name = name.0; value = v.0 }, v.1)) found is in
-    let content = bind_some (value_at code name.0.1) (λ v. Some (record { name = name.0.0; value = v.0 }, v.1)) found name.2 in
-    let named = name_takes bytes name.0 name.1 in
-    let taken = value_takes code name.0.1 content.0 (IsBytes-rest (cstring name.0.0) name.0.1 bytes named.0 fits) content.1 in
-    let made : Pair Value × List ℕ = (record { name = name.0.0; value = content.0.0 }, content.0.1) in
-    at_found (Takes IsElement (code ∷ bytes)) made found content.2 (
-      code ∷ cstring name.0.0 ++ taken.0,
-      ap (λ (it : List ℕ). code ∷ it) (regrouped bytes (cstring name.0.0) name.0.1 taken.0 content.0.1 named.0 taken.1),
-      record { code = code; content = taken.0; whole = refl; name = named.1; value = taken.2 },
-    )
+  pub value_again : AreRead IsDocument document → AreRead (IsArray IsDocument) array → (end place code : ℕ) (content : List ℕ) (it : Value) (rest : List ℕ) → IsHeld IsDocument code content it
+      → value_at document array end place code (content ++ rest) ≡ Ok (it, rest)
+  value_again docs arrays end place code content it rest is =
+      layer_again docs arrays end place code content (out-Value it) rest is ∙ ap (λ (v : Value). Ok (v, rest)) (roll-out-Value it)
 
-pub element_again : (first : List ℕ) (pair : Pair Value) (rest : List ℕ) (is : IsElement first pair) → element_at is.code (cstring pair.name ++ (is.content ++ rest)) ≡ Some (pair, rest)
-unfolding element_at
-element_again first pair rest is = rw (name_again pair.name (is.content ++ rest) is.name, value_again is.code is.content pair.value rest is.value) refl
+  -- ---- elements
+
+  pub element_takes : AreTaken IsDocument document → AreTaken (IsArray IsDocument) array → (end code : ℕ) (bytes : List ℕ) (found : Pair Value × List ℕ) → IsBytes bytes → element_at document array end code bytes ≡ Ok found
+      → Takes (IsElement IsDocument) (code ∷ bytes) found
+  unfolding element_at
+  element_takes docs arrays end code bytes found fits is =
+      let place = end - (length bytes + 1) in
+      let name = bind_ok (name_at place bytes) (λ name. value_at document array end place code name.1 >>= λ v. Ok (record { name = name.0; value = v.0 }, v.1)) found is in
+      let content = bind_ok (value_at document array end place code name.0.1) (λ v. Ok (record { name = name.0.0; value = v.0 }, v.1)) found name.2 in
+      let named = name_takes place bytes name.0 name.1 in
+      let taken = value_takes docs arrays end place code name.0.1 content.0 (IsBytes-rest (cstring name.0.0) name.0.1 bytes named.0 fits) content.1 in
+      let made : Pair Value × List ℕ = (record { name = name.0.0; value = content.0.0 }, content.0.1) in
+      at_found (Takes (IsElement IsDocument) (code ∷ bytes)) made found content.2 (
+        code ∷ cstring name.0.0 ++ taken.0,
+        ap (λ (it : List ℕ). code ∷ it) (regrouped bytes (cstring name.0.0) name.0.1 taken.0 content.0.1 named.0 taken.1),
+        record { code = code; content = taken.0; whole = refl; name = named.1; value = taken.2 },
+      )
+
+  pub element_again : AreRead IsDocument document → AreRead (IsArray IsDocument) array → (end : ℕ) (first : List ℕ) (pair : Pair Value) (rest : List ℕ) (is : IsElement IsDocument first pair)
+      → element_at document array end is.code (cstring pair.name ++ (is.content ++ rest)) ≡ Ok (pair, rest)
+  unfolding element_at
+  element_again docs arrays end first pair rest is =
+      let place = end - (length (cstring pair.name ++ (is.content ++ rest)) + 1) in
+      rw (name_again place pair.name (is.content ++ rest) is.name, value_again docs arrays end place is.code is.content pair.value rest is.value) refl
+
+  -- what is kept of a document
+  abbrev pub Keeps : {A : Type 0} → (Pair Value → A) → List ℕ → List A → Type 0
+  Keeps {A} keep bytes found = (doc : Doc) × AreElements IsDocument bytes doc × (map keep doc ≡ found)
+
+  pub elements_take : AreTaken IsDocument document → AreTaken (IsArray IsDocument) array → {A : Type 0} (keep : Pair Value → A) (most end : ℕ) (bytes : List ℕ) (found : List A) → IsBytes bytes
+      → elements_at document array keep most end bytes ≡ Ok found → Keeps keep bytes found
+  unfolding elements_at
+  elements_take docs arrays keep zero end bytes found fits is = absurd cc
+  elements_take docs arrays keep (suc most) end [] found fits is = ([], refl, same_Ok [] found is)
+  elements_take docs arrays keep (suc most) end (code ∷ bytes) found fits is =
+      let first = bind_ok (element_at document array end code bytes) (λ first. elements_at document array keep most end first.1 >>= λ others. Ok (keep first.0 ∷ others)) found is in
+      let others = bind_ok (elements_at document array keep most end first.0.1) (λ others. Ok (keep first.0.0 ∷ others)) found first.2 in
+      let taken = element_takes docs arrays end code bytes first.0 (IsBytes-rest (code ∷ []) bytes (code ∷ bytes) refl fits) first.1 in
+      let more = elements_take docs arrays keep most end first.0.1 others.0 (IsBytes-rest taken.0 first.0.1 (code ∷ bytes) taken.1 fits) others.1 in
+      (first.0.0 ∷ more.0, (taken.0, first.0.1, taken.1, taken.2, more.1), ap (λ (rest : List _). keep first.0.0 ∷ rest) more.2 ∙ same_Ok (keep first.0.0 ∷ others.0) found others.2)
+
+  pub elements_again : AreRead IsDocument document → AreRead (IsArray IsDocument) array → {A : Type 0} (keep : Pair Value → A) (doc : Doc) (most end : ℕ) (bytes : List ℕ) → AreElements IsDocument bytes doc → length bytes < most
+      → elements_at document array keep most end bytes ≡ Ok (map keep doc)
+  unfolding elements_at
+  elements_again docs arrays keep doc zero end bytes are below = absurd (omega arith)
+  elements_again docs arrays keep [] (suc most) end bytes are below = rw are refl
+  elements_again docs arrays keep (pair ∷ doc) (suc most) end bytes are below =
+      let first = are.3 in
+      let whole : bytes ≡ first.code ∷ (cstring pair.name ++ (first.content ++ are.1)) =
+      are.2 ∙ ap (λ (it : List ℕ). it ++ are.1) first.whole ∙ ap (λ (it : List ℕ). first.code ∷ it) (append_assoc (cstring pair.name) first.content are.1) in
+      let shorter : length are.1 < most = omega (arith, ap length whole, length-append (cstring pair.name) (first.content ++ are.1), length-append first.content are.1) in
+      ap (elements_at document array keep (suc most) end) whole ∙ rw (element_again docs arrays end are.0 pair are.1 first, elements_again docs arrays keep doc most end are.1 are.4 shorter) refl

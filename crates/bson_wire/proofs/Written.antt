@@ -1,60 +1,133 @@
 -- What is written is in the grammar.
-use Rattle.std.proofs.Common.{◌≡◌, ℕ, ◌+◌, ◌^◌, ◌<◌, List, [], ◌∷◌, ◌++◌, length, All, refl, sym, ap, ◌∙◌, arith}
+use Rattle.std.proofs.Common.{◌≡◌, ◌≢◌, ℕ, zero, suc, ◌+◌, ◌%◌, ◌^◌, ◌<◌, List, [], ◌∷◌, ◌++◌, length, length-append, map, All, refl, sym, ap, subst, ◌∙◌, arith}
+use Rattle.std.specs.Fmt.{decimal}
 use Rattle.std.specs.List.{flat_map}
-use Rattle.std.proofs.lemmas.List.{length-append}
+use Rattle.std.proofs.lemmas.Fmt.{decimal_by_steps, IsAscii-decimal}
+use Rattle.std.proofs.lemmas.Str.{IsUtf8-from_ascii}
 use Rattle.std.proofs.lemmas.List.Concat.{flat_map-cons}
-use Rattle.std.proofs.lemmas.List.Elements.{All-head, All-tail}
-use Rattle.byteorder.specs.Numbers.{length-bytes_low_first}
+use Rattle.std.proofs.lemmas.List.Elements.{All-head, All-tail, All-nil, All-cons, All-push}
 use Rattle.bson_values.specs.declared.pairs.Pair.{Pair}
-use Rattle.bson_values.specs.declared.value.Value.{Value, out-Value}
+use Rattle.bson_values.specs.declared.value.Value.{Value}
+use Rattle.bson_values.specs.declared.value.Value.TheViews.{out-Value}
 use Rattle.bson_values.specs.declared.value.Value.TheOpen.{Value-F}
-use Rattle.bson_wire.specs.Spelling.{int32, cstring, string, code_in, content_in, element, enclosed, spell}
-use Rattle.bson_wire.specs.Grammar.{IsName, IsValue, IsElement, AreElements, spells}
+use Rattle.bson_wire.specs.Spelling.{int32, held, items_from, element, enclosed, spell}
+use Rattle.bson_wire.specs.Grammar.{IsName, IsArray, IsValue, IsElement, AreElements, values, spells_within, spells}
 use Rattle.bson_wire.specs.Spellable.{HasSpelling, IsSpellable}
+use Rattle.bson_wire.proofs.Helds.{held_layer, held_is}
+use Rattle.bson_wire.proofs.Sizes.{length-string, length-binary, length-enclosed, length-element_of}
+use Rattle.bson_wire.proofs.Values.{Doc}
 
-length-string : (text : List ℕ) → length (string text) ≡ length text + 5
-length-string text =
-    omega (arith, length-append (int32 (length text + 1)) (cstring text), length-append text (0 ∷ []), length-bytes_low_first 0 4 (length text + 1))
+-- ---- names of items
 
-value_spelled : (it : Value-F Value) → HasSpelling it → length (content_in it) < 2 ^ 31 → IsValue (code_in it) (content_in it) it
-value_spelled (Value-F.Str text) has small = (refl, record { utf8 = has; small = omega (arith, length-string text); whole = refl })
-value_spelled (Value-F.Int number) has small = (refl, record { fits = has; whole = refl })
-value_spelled it has small = absurd has
+abbrev NoNul : List ℕ → Type 0
+NoNul digits = All (λ byte. byte ≢ 0) digits
 
-abbrev IsNamed : Pair Value → Type 0
-IsNamed pair = IsName pair.name
+digits_no_nul : (n : ℕ) → n < 2 ^ 64 → NoNul (decimal n)
+digits_no_nul = decimal_by_steps (λ n digits. NoNul digits)
+    (λ n small. All-cons (λ byte. byte ≢ 0) (48 + n) [] (omega arith) (All-nil (λ byte. byte ≢ 0)))
+    (λ n digits large no_nul. All-push (λ byte. byte ≢ 0) digits (48 + n % 10) no_nul (omega arith))
 
-abbrev IsHeld : Pair Value → Type 0
-IsHeld pair = HasSpelling (out-Value pair.value)
+item_name : (n : ℕ) → n < 2 ^ 64 → IsName (decimal n)
+item_name n small = record { utf8 = IsUtf8-from_ascii (decimal n) (IsAscii-decimal n small); no_nul = digits_no_nul n small }
 
-element_spelled : (pair : Pair Value) → IsNamed pair → IsHeld pair → length (element pair) < 2 ^ 31 → IsElement (element pair) pair
-element_spelled pair named held small =
-    let content = content_in (out-Value pair.value) in
-    let short : length content < 2 ^ 31 = omega (arith, length-append (cstring pair.name) content) in
-    record { code = code_in (out-Value pair.value); content = content; whole = refl; name = named; value = value_spelled (out-Value pair.value) held short }
+-- the document that an array is spelled as
+abbrev named_from : ℕ → List Value → Doc
+named_from place [] = []
+named_from place (item ∷ items) = record { name = decimal place; value = item } ∷ named_from (place + 1) items
 
-elements_spelled : (doc : List (Pair Value)) → All IsNamed doc → All IsHeld doc → length (flat_map element doc) < 2 ^ 31 → AreElements (flat_map element doc) doc
-elements_spelled [] named held small = refl
-elements_spelled (pair ∷ doc) named held small =
+values_named : (place : ℕ) (items : List Value) → values (named_from place items) ≡ items
+values_named place [] = refl
+values_named place (item ∷ items) = ap (λ (rest : List Value). item ∷ rest) (values_named (place + 1) items)
+
+-- ---- what is within a level
+
+-- each value with a spelling in so many levels is spelled so
+abbrev AreSpelled : ℕ → Type 0
+AreSpelled levels = (it : Value) → HasSpelling (out-Value it) levels → length (held it).1 < 2 ^ 31 → IsValue (spells_within levels) (held it).0 (held it).1 (out-Value it)
+
+element_spelled : (levels : ℕ) → AreSpelled levels → (pair : Pair Value) → IsName pair.name → HasSpelling (out-Value pair.value) levels → length (element pair) < 2 ^ 31 → IsElement (spells_within levels) (element pair) pair
+element_spelled levels are pair named has small =
+    let short : length (held pair.value).1 < 2 ^ 31 = omega (arith, length-element_of pair.name (held pair.value)) in
+    record { code = (held pair.value).0; content = (held pair.value).1; whole = refl; name = named; value = are pair.value has short }
+
+abbrev IsFit : ℕ → Pair Value → Type 0
+IsFit levels pair = IsName pair.name × HasSpelling (out-Value pair.value) levels
+
+elements_spelled : (levels : ℕ) → AreSpelled levels → (doc : Doc) → All (IsFit levels) doc → length (flat_map element doc) < 2 ^ 31 → AreElements (spells_within levels) (flat_map element doc) doc
+elements_spelled levels are [] fits small = refl
+elements_spelled levels are (pair ∷ doc) fits small =
     let rest = flat_map element doc in
     let whole = flat_map-cons element pair doc in
     let both : length (flat_map element (pair ∷ doc)) ≡ length (element pair) + length rest = ap length whole ∙ length-append (element pair) rest in
-    let first = element_spelled pair (All-head IsNamed pair doc named) (All-head IsHeld pair doc held) (omega arith) in
-    let others = elements_spelled doc (All-tail IsNamed pair doc named) (All-tail IsHeld pair doc held) (omega arith) in
+    let fit = All-head (IsFit levels) pair doc fits in
+    let first = element_spelled levels are pair fit.0 fit.1 (omega arith) in
+    let others = elements_spelled levels are doc (All-tail (IsFit levels) pair doc fits) (omega arith) in
     (element pair, rest, whole, first, others)
 
-length-enclosed : (inside : List ℕ) → length (enclosed inside) ≡ length inside + 5
-length-enclosed inside =
-    let stated = int32 (length inside + 5) in
-    omega (arith, length-append (stated ++ inside) (0 ∷ []), length-append stated inside, length-bytes_low_first 0 4 (length inside + 5))
+abbrev IsFitItem : ℕ → Value → Type 0
+IsFitItem levels item = HasSpelling (out-Value item) levels
 
-pub spelled : (doc : List (Pair Value)) → IsSpellable doc → spells (spell doc) doc
-spelled doc is =
+items_spelled : (levels : ℕ) → AreSpelled levels → (place : ℕ) (items : List Value) → All (IsFitItem levels) items → place + length (items_from place (map held items)) < 2 ^ 31
+    → AreElements (spells_within levels) (items_from place (map held items)) (named_from place items)
+items_spelled levels are place [] fits small = refl
+items_spelled levels are place (item ∷ items) fits small =
+    let pair : Pair Value = record { name = decimal place; value = item } in
+    let rest = items_from (place + 1) (map held items) in
+    let both : length (element pair ++ rest) ≡ length (element pair) + length rest = length-append (element pair) rest in
+    let len = length-element_of (decimal place) (held item) in
+    let first = element_spelled levels are pair (item_name place (omega arith)) (All-head (IsFitItem levels) item items fits) (omega arith) in
+    let others = items_spelled levels are (place + 1) items (All-tail (IsFitItem levels) item items fits) (omega arith) in
+    (element pair, rest, refl, first, others)
+
+enclosed_spelled : (levels : ℕ) (inside : List ℕ) (pairs : Doc) → AreElements (spells_within levels) inside pairs → length (enclosed inside) < 2 ^ 31 → spells_within (suc levels) (enclosed inside) pairs
+unfolding spells_within
+enclosed_spelled levels inside pairs elements small =
+    record { inside = inside; small = small; whole = ap (λ (n : ℕ). int32 n ++ inside ++ 0 ∷ []) (sym (length-enclosed inside)); elements = elements }
+
+document_spelled : (levels : ℕ) → AreSpelled levels → (doc : Doc) → All (IsFit levels) doc → length (spell doc) < 2 ^ 31 → spells_within (suc levels) (spell doc) doc
+document_spelled levels are doc fits small =
     let inside = flat_map element doc in
-    let len = length-enclosed inside in
-    record {
-      inside = inside;
-      small = is.small;
-      whole = ap (λ (n : ℕ). int32 n ++ inside ++ 0 ∷ []) (sym len);
-      elements = elements_spelled doc is.names is.values (omega (arith, is.small));
-    }
+    enclosed_spelled levels inside doc (elements_spelled levels are doc fits (omega (arith, length-enclosed inside))) small
+
+array_spelled : (levels : ℕ) → AreSpelled levels → (items : List Value) → All (IsFitItem levels) items → length (enclosed (items_from 0 (map held items))) < 2 ^ 31
+    → IsArray (spells_within (suc levels)) (enclosed (items_from 0 (map held items))) items
+array_spelled levels are items fits small =
+    let inside = items_from 0 (map held items) in
+    let elements = items_spelled levels are 0 items fits (omega (arith, length-enclosed inside)) in
+    (named_from 0 items, enclosed_spelled levels inside (named_from 0 items) elements small, values_named 0 items)
+
+-- ---- level by level
+
+-- what is one level down
+abbrev AreSpelledBelow : ℕ → Type 0
+AreSpelledBelow zero = Unit {0}
+AreSpelledBelow (suc levels) = AreSpelled levels
+
+layer_spelled : (layer : Value-F Value) (levels : ℕ) → AreSpelledBelow levels → HasSpelling layer levels → length (held_layer layer).1 < 2 ^ 31 → IsValue (spells_within levels) (held_layer layer).0 (held_layer layer).1 layer
+layer_spelled (Value-F.Str text) levels below has small = (refl, record { utf8 = has; small = omega (arith, length-string text); whole = refl })
+layer_spelled (Value-F.Doc pairs) zero below has small = absurd has
+layer_spelled (Value-F.Doc pairs) (suc levels) below has small = (refl, document_spelled levels below pairs has small)
+layer_spelled (Value-F.Arr items) zero below has small = absurd has
+layer_spelled (Value-F.Arr items) (suc levels) below has small = (refl, array_spelled levels below items has small)
+layer_spelled (Value-F.Bin it) levels below has small = (refl, record { small = omega (arith, length-binary it.subtype it.bytes); whole = refl })
+layer_spelled (Value-F.Id id) levels below has small = (refl, has, refl)
+layer_spelled (Value-F.Bool truth) levels below has small = (refl, refl)
+layer_spelled (Value-F.Date moment) levels below has small = (refl, record { fits = has; whole = refl })
+layer_spelled Value-F.Null levels below has small = (refl, refl)
+layer_spelled (Value-F.Regex regex) levels below has small = (refl, record { pattern = has.0; options = has.1; whole = refl })
+layer_spelled (Value-F.Int number) levels below has small = (refl, record { fits = has; whole = refl })
+layer_spelled (Value-F.Stamp stamp) levels below has small = (refl, record { fits = has; whole = refl })
+layer_spelled (Value-F.Long number) levels below has small = (refl, record { fits = has; whole = refl })
+
+value_by : (levels : ℕ) → AreSpelledBelow levels → AreSpelled levels
+value_by levels below it has small =
+    let same = held_is it in
+    let short : length (held_layer (out-Value it)).1 < 2 ^ 31 = omega (arith, ap (λ (h : ℕ × List ℕ). length h.1) same) in
+    subst (λ (h : ℕ × List ℕ). IsValue (spells_within levels) h.0 h.1 (out-Value it)) (sym same) (layer_spelled (out-Value it) levels below has short)
+
+value_spelled : (levels : ℕ) → AreSpelled levels
+value_spelled zero = value_by zero tt
+value_spelled (suc levels) = value_by (suc levels) (value_spelled levels)
+
+pub spelled : (doc : Doc) → IsSpellable doc → spells (spell doc) doc
+spelled doc is = document_spelled 127 (value_spelled 127) doc is.fits is.small

@@ -1,6 +1,6 @@
 -- Which documents have a spelling.
-use Rattle.std.specs.Prelude.{◌<◌, ◌^◌, List, length, All, FitsSigned}
-use Rattle.std.specs.Int.{w32}
+use Rattle.std.specs.Prelude.{ℕ, zero, suc, ◌≡◌, ◌<◌, ◌^◌, List, length, All, FitsSigned}
+use Rattle.std.specs.Int.{w32, w64}
 use Rattle.std.specs.Str.{IsUtf8}
 use Rattle.bson_values.specs.declared.pairs.Pair.{Pair}
 use Rattle.bson_values.specs.declared.value.Value.{Value, out-Value}
@@ -8,14 +8,24 @@ use Rattle.bson_values.specs.declared.value.Value.TheOpen.{Value-F}
 use Rattle.bson_wire.specs.Spelling.{spell}
 use Rattle.bson_wire.specs.Grammar.{IsName}
 
--- a value whose type is built, and that fits it
-abbrev pub HasSpelling : Value-F Value → Type 0
-HasSpelling (Value-F.Str text) = IsUtf8 text
-HasSpelling (Value-F.Int number) = FitsSigned w32 number
-HasSpelling _ = ⊥
+-- texts that are UTF-8, names and regex texts without U+0000, numbers that fit, at most so many levels of containers
+abbrev pub HasSpelling : Value-F Value → ℕ → Type 0
+HasSpelling (Value-F.Str text) levels = IsUtf8 text
+HasSpelling (Value-F.Doc pairs) zero = ⊥
+HasSpelling (Value-F.Doc pairs) (suc levels) = All (λ (pair : Pair Value). IsName pair.name × HasSpelling (out-Value pair.value) levels) pairs
+HasSpelling (Value-F.Arr items) zero = ⊥
+HasSpelling (Value-F.Arr items) (suc levels) = All (λ (item : Value). HasSpelling (out-Value item) levels) items
+HasSpelling (Value-F.Bin it) levels = Unit {0}
+HasSpelling (Value-F.Id id) levels = length id ≡ 12
+HasSpelling (Value-F.Bool truth) levels = Unit {0}
+HasSpelling (Value-F.Date moment) levels = FitsSigned w64 moment
+HasSpelling Value-F.Null levels = Unit {0}
+HasSpelling (Value-F.Regex regex) levels = IsName regex.pattern × IsName regex.options
+HasSpelling (Value-F.Int number) levels = FitsSigned w32 number
+HasSpelling (Value-F.Stamp stamp) levels = stamp < 2 ^ 64
+HasSpelling (Value-F.Long number) levels = FitsSigned w64 number
 
--- names and values that can be spelled, in fewer than 2 ^ 31 bytes
+-- a document of at most 128 levels, in fewer than 2 ^ 31 bytes
 pub record IsSpellable (doc : List (Pair Value)) : Type 0 where
-  pub names : All (λ (pair : Pair Value). IsName pair.name) doc
-  pub values : All (λ (pair : Pair Value). HasSpelling (out-Value pair.value)) doc
+  pub fits : HasSpelling (Value-F.Doc doc) 128
   pub small : length (spell doc) < 2 ^ 31

@@ -1,15 +1,21 @@
--- The bytes of documents: BSON 1.1, in the part that is built: strings (02) and int32 (10), flat.
-use Rattle.std.specs.Prelude.{ℕ, ◌+◌, List, [], ◌∷◌, ◌++◌, length, All}
-use Rattle.std.specs.Int.{w32, cast_unsigned}
+-- The bytes of documents: BSON 1.1, in its twelve supported types.
+use Rattle.std.specs.Prelude.{ℕ, ◌+◌, Bool, if◌then◌else◌, List, [], ◌∷◌, ◌++◌, length}
+use Rattle.std.specs.Fmt.{decimal}
+use Rattle.std.specs.Int.{w32, w64, cast_unsigned}
 use Rattle.std.specs.List.{flat_map}
 use Rattle.byteorder.specs.Endian.{little_bytes}
 use Rattle.bson_values.specs.declared.pairs.Pair.{Pair}
-use Rattle.bson_values.specs.declared.value.Value.{Value, out-Value}
+use Rattle.bson_values.specs.declared.value.Value.{Value}
 use Rattle.bson_values.specs.declared.value.Value.TheOpen.{Value-F}
+use Rattle.bson_values.specs.declared.value.Value.TheFolds.{fold-Value}
 
 -- four bytes, the lowest first
 abbrev pub int32 : ℕ → List ℕ
 int32 number = little_bytes 4 number
+
+-- eight bytes, the lowest first
+abbrev pub int64 : ℕ → List ℕ
+int64 number = little_bytes 8 number
 
 -- a text that a 00 byte ends
 abbrev pub cstring : List ℕ → List ℕ
@@ -19,33 +25,49 @@ cstring text = text ++ 0 ∷ []
 abbrev pub string : List ℕ → List ℕ
 string text = int32 (length text + 1) ++ cstring text
 
--- the type byte of a value, and the bytes behind its name
-abbrev pub code_in : Value-F Value → ℕ
-code_in (Value-F.Str text) = 2
-code_in _ = 16
-
-abbrev pub content_in : Value-F Value → List ℕ
-content_in (Value-F.Str text) = string text
-content_in (Value-F.Int number) = int32 (cast_unsigned w32 number)
-content_in _ = []
-
--- one element: type byte, name, value
-abbrev pub element : Pair Value → List ℕ
-element pair = code_in (out-Value pair.value) ∷ cstring pair.name ++ content_in (out-Value pair.value)
-
 -- a length that counts all, what is inside, and a 00 byte
 abbrev pub enclosed : List ℕ → List ℕ
 enclosed inside = int32 (length inside + 5) ++ inside ++ 0 ∷ []
 
--- a value of a type that has a spelling
-abbrev pub IsSupported : Value-F Value → Type 0
-IsSupported (Value-F.Str text) = Unit {0}
-IsSupported (Value-F.Int number) = Unit {0}
-IsSupported _ = ⊥
+-- a length, a byte that says what kind of data it is, and as many bytes
+abbrev pub binary : ℕ → List ℕ → List ℕ
+binary subtype bytes = int32 (length bytes) ++ subtype ∷ bytes
 
--- every value of the document has one
-abbrev pub IsFlat : List (Pair Value) → Type 0
-IsFlat pairs = All (λ (pair : Pair Value). IsSupported (out-Value pair.value)) pairs
+-- one byte, 01 or 00
+abbrev pub bool : Bool → List ℕ
+bool truth = (if truth then 1 else 0) ∷ []
+
+-- an element of that name: the type byte, the name, and what is behind them
+abbrev pub element_of : List ℕ → ℕ × List ℕ → List ℕ
+element_of name held = held.0 ∷ cstring name ++ held.1
+
+-- elements whose names are the decimal numbers from `place` on
+abbrev pub items_from : ℕ → List (ℕ × List ℕ) → List ℕ
+items_from place [] = []
+items_from place (held ∷ more) = element_of (decimal place) held ++ items_from (place + 1) more
+
+-- the type byte of a value and the bytes behind its name, made of those of the values in it
+abbrev pub held_in : Value-F (ℕ × List ℕ) → ℕ × List ℕ
+held_in (Value-F.Str text) = (2, string text)
+held_in (Value-F.Doc pairs) = (3, enclosed (flat_map (λ (pair : Pair (ℕ × List ℕ)). element_of pair.name pair.value) pairs))
+held_in (Value-F.Arr items) = (4, enclosed (items_from 0 items))
+held_in (Value-F.Bin it) = (5, binary it.subtype it.bytes)
+held_in (Value-F.Id id) = (7, id)
+held_in (Value-F.Bool truth) = (8, bool truth)
+held_in (Value-F.Date moment) = (9, int64 (cast_unsigned w64 moment))
+held_in Value-F.Null = (10, [])
+held_in (Value-F.Regex regex) = (11, cstring regex.pattern ++ cstring regex.options)
+held_in (Value-F.Int number) = (16, int32 (cast_unsigned w32 number))
+held_in (Value-F.Stamp stamp) = (17, int64 stamp)
+held_in (Value-F.Long number) = (18, int64 (cast_unsigned w64 number))
+
+-- the type byte of a value, and the bytes behind its name
+abbrev pub held : Value → ℕ × List ℕ
+held = fold-Value (ℕ × List ℕ) held_in
+
+-- one element of a document
+abbrev pub element : Pair Value → List ℕ
+element pair = element_of pair.name (held pair.value)
 
 -- the one spelling of a document
 abbrev pub spell : List (Pair Value) → List ℕ

@@ -5,6 +5,7 @@ mod laws;
 mod pieces;
 mod reader;
 mod refused;
+mod scalars;
 mod writer;
 
 pub use laws::{no_spelling_begins_another, what_was_written_is_read_again};
@@ -12,5 +13,7 @@ pub use reader::{Front, read};
 pub use refused::ReadRefused;
 pub use writer::write;
 
+#[cfg(test)]
+mod places;
 #[cfg(test)]
 mod tests;

@@ -1,16 +1,15 @@
-ghost use Rattle.std.specs.Prelude.{◌≡◌, ◌≤◌, ◌<◌, ◌∷◌, ◌++◌, ◌==◌, ◌+◌, [], length, IfSome, IfOk, IfErr, OnOk, position, ℕ, List, take};
+ghost use Rattle.std.specs.Prelude.{◌≡◌, ◌≤◌, ◌<◌, ◌∷◌, ◌++◌, ◌+◌, [], length, IfOk, IfErr, OnOk, ℕ, List as Seq, take};
 ghost use Rattle.std.specs.Result.{MatchResult};
 ghost use Rattle.bson_values.specs.declared.pairs.Pair.{Pair as Named};
 ghost use Rattle.bson_values.specs.declared.value.Value.{Value as Held};
 ghost use Rattle.bson_wire.specs.Grammar.{spells};
-ghost use Rattle.bson_wire.specs.Reading.{Gives, number_at, length_at, text_of, name_at, ended_at, string_at, value_at, element_at, elements_at, document_at};
+ghost use Rattle.bson_wire.specs.Reading.{Gives, Tells, value_at, element_at, all_at, document_at, array_at};
 
 use crate::pieces::{head, tail};
 use crate::refused::ReadRefused;
-use bson_values::{Document, Text, Value};
-use byteorder::{ByteOrder, LittleEndian};
+use crate::scalars::{ended, length, name, part, scalar};
+use bson_values::{Document, List, Text, Value};
 use std::alloc::Global;
-use std::str::from_utf8;
 
 /// The document at the front of some bytes.
 #[derive(Debug, Drop)]
@@ -20,160 +19,173 @@ pub struct Front {
     pub used: u64,
 }
 
-#[tactic(auto, unfolding(crate::specs::Reading::number_at))]
-fn number(bytes: &[u8]) -> Result<(u32, &[u8]), ReadRefused>
-    ensures value { Gives (λ it. (it.0, it.1.now)) result (number_at bytes.now) }
-    ensures shorter { IfOk result (λ it. length it.1.now ≤ length bytes.now) }
-{
-    if bytes.len() < 4 {
-        return Err(ReadRefused::Malformed);
-    }
-    Ok((LittleEndian::read_u32(bytes), tail(bytes, 4)))
-}
-
-/// An int32 that counts bytes, `least` or more.
-#[tactic(auto, unfolding(crate::specs::Reading::length_at))]
-fn length(bytes: &[u8], least: usize) -> Result<(usize, &[u8]), ReadRefused>
-    ensures value { Gives (λ it. (it.0, it.1.now)) result (length_at least bytes.now) }
-    ensures least { IfOk result (λ it. least ≤ it.0) }
-    ensures shorter { IfOk result (λ it. length it.1.now ≤ length bytes.now) }
-{
-    let (stated, rest) = number(bytes)?;
-    let len = stated as usize;
-    if len < least || len > 2_147_483_647 {
-        return Err(ReadRefused::Malformed);
-    }
-    Ok((len, rest))
-}
-
-fn text(alloc: Global, bytes: &[u8]) -> Result<Text, ReadRefused>
-    ensures { Gives (λ it. it) result (text_of bytes.now) }
-{
-    match from_utf8(bytes) {
-        Ok(text) => match Text::of(alloc, text) {
-            Ok(text) => Ok(text),
-            Err(_) => Err(ReadRefused::NoMemory),
-        },
-        Err(_) => Err(ReadRefused::Malformed),
-    }
-}
-
-/// The place of the first 00 byte.
-fn nul(bytes: &[u8]) -> Option<usize>
-    ensures value { result ≡ position (λ byte. byte == 0) bytes.now }
-    ensures within { IfSome result (λ place. place < length bytes.now) }
-{
-    bytes.iter().position(|byte| *byte == 0)
-}
-
-#[tactic(auto, unfolding(crate::specs::Reading::name_at))]
-fn name(alloc: Global, bytes: &[u8]) -> Result<(Text, &[u8]), ReadRefused>
-    ensures value { Gives (λ it. (it.0, it.1.now)) result (name_at bytes.now) }
-    ensures shorter { IfOk result (λ it. length it.1.now ≤ length bytes.now) }
-{
-    match nul(bytes) {
-        Some(len) => {
-            let name = text(alloc, head(bytes, len))?;
-            Ok((name, tail(bytes, len + 1)))
-        }
-        None => Err(ReadRefused::Malformed),
-    }
-}
-
-/// The first `len` bytes but for the 00 byte that ends them, and the bytes after it.
-#[tactic(auto, unfolding(crate::specs::Reading::ended_at))]
-fn ended(bytes: &[u8], len: usize) -> Result<(&[u8], &[u8]), ReadRefused>
-    requires { 0 < len }
-    ensures value { Gives (λ it. (it.0.now, it.1.now)) result (ended_at len bytes.now) }
-    ensures shorter { IfOk result (λ it. length it.1.now ≤ length bytes.now) }
-{
-    if bytes.len() < len {
-        return Err(ReadRefused::Malformed);
-    }
-    if bytes[len - 1] != 0 {
-        return Err(ReadRefused::Malformed);
-    }
-    Ok((head(bytes, len - 1), tail(bytes, len)))
-}
-
-#[tactic(auto, unfolding(crate::specs::Reading::string_at))]
-fn string(alloc: Global, bytes: &[u8]) -> Result<(Text, &[u8]), ReadRefused>
-    ensures value { Gives (λ it. (it.0, it.1.now)) result (string_at bytes.now) }
-    ensures shorter { IfOk result (λ it. length it.1.now ≤ length bytes.now) }
-{
-    let (len, rest) = length(bytes, 1)?;
-    let (content, rest) = ended(rest, len)?;
-    let text = text(alloc, content)?;
-    Ok((text, rest))
-}
-
+/// A value behind its type byte, which stands at `place`. All bytes end at `end`.
 #[tactic(auto, unfolding(crate::specs::Reading::value_at))]
-fn value(alloc: Global, code: u8, bytes: &[u8]) -> Result<(Value, &[u8]), ReadRefused>
-    ensures value { Gives (λ it. (it.0, it.1.now)) result (value_at code bytes.now) }
+#[cycle(reader)]
+fn value(
+    alloc: Global,
+    code: u8,
+    bytes: &[u8],
+    place: u64,
+    end: u64,
+    levels: u32,
+) -> Result<(Value, &[u8]), ReadRefused>
+    requires { length bytes.now ≤ end }
+    ensures value { Gives (λ it. (it.0, it.1.now)) result
+        (value_at (document_at levels) (array_at levels) end place code bytes.now) }
     ensures shorter { IfOk result (λ it. length it.1.now ≤ length bytes.now) }
 {
     match code {
-        0x02 => {
-            let (text, rest) = string(alloc, bytes)?;
-            Ok((Value::Str(text), rest))
+        0x03 => {
+            let (doc, rest) = document(alloc, bytes, end, levels)?;
+            Ok((Value::Doc(doc), rest))
         }
-        0x10 => {
-            let (bits, rest) = number(bytes)?;
-            Ok((Value::Int(bits.cast_signed()), rest))
+        0x04 => {
+            let (items, rest) = array(alloc, bytes, end, levels)?;
+            Ok((Value::Arr(items), rest))
         }
-        _ => Err(ReadRefused::Malformed),
+        _ => scalar(alloc, code, bytes, place),
     }
 }
 
 /// The name and the value of an element, behind its type byte.
 #[tactic(auto, unfolding(crate::specs::Reading::element_at))]
-fn element(alloc: Global, code: u8, bytes: &[u8]) -> Result<(Text, Value, &[u8]), ReadRefused>
-    ensures value { Gives (λ it. (record { name = it.0; value = it.1 }, it.2.now)) result
-        (element_at code bytes.now) }
+#[cycle(reader)]
+fn element(
+    alloc: Global,
+    code: u8,
+    bytes: &[u8],
+    end: u64,
+    levels: u32,
+) -> Result<(&str, Value, &[u8]), ReadRefused>
+    requires { length bytes.now < end }
+    ensures value { Gives (λ it. (record { name = it.0.now; value = it.1 }, it.2.now)) result
+        (element_at (document_at levels) (array_at levels) end code bytes.now) }
     ensures shorter { IfOk result (λ it. length it.2.now ≤ length bytes.now) }
 {
-    let (name, rest) = name(alloc, bytes)?;
-    let (value, rest) = value(alloc, code, rest)?;
+    let place = end - (bytes.len() as u64 + 1);
+    let (name, rest) = name(bytes, place)?;
+    let (value, rest) = value(alloc, code, rest, place, end, levels)?;
     Ok((name, value, rest))
 }
 
-fn push(doc: &mut Document, name: Text, value: Value) -> Result<(), ReadRefused>
-    ensures ok { OnOk result (doc.new ≡ doc.old ++ (record { name = name; value = value }) ∷ []) }
+fn push(alloc: Global, doc: &mut Document, name: &str, value: Value) -> Result<(), ReadRefused>
+    ensures ok { OnOk result (doc.new ≡ doc.old ++ (record { name = name.now; value = value }) ∷ []) }
     ensures err { IfErr result (λ refused. refused ≡ ReadRefused.NoMemory) }
 {
+    let name = Text::of(alloc, name)?;
     match doc.push(name, value) {
         Ok(()) => Ok(()),
         Err(_) => Err(ReadRefused::NoMemory),
     }
 }
 
+fn push_item(items: &mut List<Value>, item: Value) -> Result<(), ReadRefused>
+    ensures ok { OnOk result (items.new ≡ items.old ++ item ∷ []) }
+    ensures err { IfErr result (λ refused. refused ≡ ReadRefused.NoMemory) }
+{
+    match items.push(item) {
+        Ok(()) => Ok(()),
+        Err(_) => Err(ReadRefused::NoMemory),
+    }
+}
+
 /// The elements that fill the bytes.
-fn elements(alloc: Global, bytes: &[u8]) -> Result<Document, ReadRefused>
-    ensures { Gives (λ it. it) result (elements_at (length bytes.now + 1) bytes.now) }
+#[cycle(reader)]
+fn elements(alloc: Global, bytes: &[u8], end: u64, levels: u32) -> Result<Document, ReadRefused>
+    requires { length bytes.now ≤ end }
+    ensures { Gives (λ it. it) result (all_at (document_at levels) (array_at levels) (λ pair. pair) end bytes.now) }
 {
     let mut doc = Document::new(alloc);
     let mut rest = bytes;
     while rest.len() > 0 {
         let code = rest[0];
-        let (name, value, after) = match element(alloc, code, tail(rest, 1)) {
+        let (name, value, after) = match element(alloc, code, tail(rest, 1), end, levels) {
             Ok(found) => found,
             Err(refused) => return Err(refused),
         };
-        push(&mut doc, name, value)?;
+        push(alloc, &mut doc, name, value)?;
         rest = after;
     }
     Ok(doc)
 }
 
-#[tactic(auto, unfolding(crate::specs::Reading::document_at))]
-fn document(alloc: Global, bytes: &[u8]) -> Result<(Document, &[u8]), ReadRefused>
-    ensures value { Gives (λ it. (it.0, it.1.now)) result (document_at bytes.now) }
+/// The values of the elements that fill the bytes.
+#[cycle(reader)]
+fn items(alloc: Global, bytes: &[u8], end: u64, levels: u32) -> Result<List<Value>, ReadRefused>
+    requires { length bytes.now ≤ end }
+    ensures { Gives (λ it. it) result (all_at (document_at levels) (array_at levels) (λ pair. pair.value) end bytes.now) }
+{
+    let mut items = List::new(alloc);
+    let mut rest = bytes;
+    while rest.len() > 0 {
+        let code = rest[0];
+        let (_, value, after) = match element(alloc, code, tail(rest, 1), end, levels) {
+            Ok(found) => found,
+            Err(refused) => return Err(refused),
+        };
+        push_item(&mut items, value)?;
+        rest = after;
+    }
+    Ok(items)
+}
+
+#[tactic(auto, unfolding(crate::specs::Reading::document_at, crate::specs::Reading::enclosed_at))]
+#[cycle(reader)]
+fn document(
+    alloc: Global,
+    bytes: &[u8],
+    end: u64,
+    levels: u32,
+) -> Result<(Document, &[u8]), ReadRefused>
+    requires { length bytes.now ≤ end }
+    ensures value { Gives (λ it. (it.0, it.1.now)) result (document_at levels end bytes.now) }
     ensures shorter { IfOk result (λ it. length it.1.now ≤ length bytes.now) }
 {
-    let (len, rest) = length(bytes, 5)?;
-    let (inside, rest) = ended(rest, len - 4)?;
-    let doc = elements(alloc, inside)?;
-    Ok((doc, rest))
+    let place = end - bytes.len() as u64;
+    if levels == 0 {
+        return Err(ReadRefused::Malformed(place));
+    }
+    let (len, rest) = length(bytes, 5, place)?;
+    let (whole, rest) = part(rest, len - 4, place)?;
+    let inside_end = end - (rest.len() as u64 + 1);
+    let doc = match elements(alloc, head(whole, whole.len() - 1), inside_end, levels - 1) {
+        Ok(doc) => doc,
+        Err(refused) => return Err(refused),
+    };
+    match ended(whole, place) {
+        Ok(_) => Ok((doc, rest)),
+        Err(refused) => Err(refused),
+    }
+}
+
+#[tactic(auto, unfolding(crate::specs::Reading::array_at, crate::specs::Reading::enclosed_at))]
+#[cycle(reader)]
+fn array(
+    alloc: Global,
+    bytes: &[u8],
+    end: u64,
+    levels: u32,
+) -> Result<(List<Value>, &[u8]), ReadRefused>
+    requires { length bytes.now ≤ end }
+    ensures value { Gives (λ it. (it.0, it.1.now)) result (array_at levels end bytes.now) }
+    ensures shorter { IfOk result (λ it. length it.1.now ≤ length bytes.now) }
+{
+    let place = end - bytes.len() as u64;
+    if levels == 0 {
+        return Err(ReadRefused::Malformed(place));
+    }
+    let (len, rest) = length(bytes, 5, place)?;
+    let (whole, rest) = part(rest, len - 4, place)?;
+    let inside_end = end - (rest.len() as u64 + 1);
+    let items = match items(alloc, head(whole, whole.len() - 1), inside_end, levels - 1) {
+        Ok(items) => items,
+        Err(refused) => return Err(refused),
+    };
+    match ended(whole, place) {
+        Ok(_) => Ok((items, rest)),
+        Err(refused) => Err(refused),
+    }
 }
 
 /// Reads the document at the front. Bytes may follow it.
@@ -181,12 +193,17 @@ pub fn read(alloc: Global, bytes: &[u8]) -> Result<Front, ReadRefused>
     ensures found { IfOk result (λ front. (front.used ≤ length bytes.now)
         × spells (take front.used bytes.now) front.doc) }
     // Where a document stands, nothing else is read, and want of memory is the one refusal.
-    ensures only { (doc : List (Named Held)) (spelling rest : List ℕ)
+    ensures only { (doc : Seq (Named Held)) (spelling rest : Seq ℕ)
         → spells spelling doc → bytes.now ≡ spelling ++ rest
         → MatchResult result (λ front. (front.doc ≡ doc) × (front.used ≡ length spelling))
         (λ refused. refused ≡ ReadRefused.NoMemory) }
+    // Malformed bytes are told by the place of their first fault.
+    ensures place { IfErr result (λ refused. Tells refused bytes.now) }
 {
-    let (doc, rest) = document(alloc, bytes)?;
+    let (doc, rest) = match document(alloc, bytes, bytes.len() as u64, 128) {
+        Ok(found) => found,
+        Err(refused) => return Err(refused),
+    };
     Ok(Front {
         doc,
         used: (bytes.len() - rest.len()) as u64,

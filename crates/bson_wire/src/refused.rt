@@ -3,8 +3,10 @@ use bson_values::NoMemory;
 /// Why no document was read.
 #[derive(Clone, Copy, Debug, PartialEq, Eq)]
 pub enum ReadRefused {
-    /// No document stands at the front of the bytes.
-    Malformed,
+    /// No document stands at the front of the bytes. The number is the place of the first fault, counted from the front: that of
+    /// the type byte of the innermost faulty element, or of the length of the innermost document or array whose length, end byte
+    /// or nesting is faulty.
+    Malformed(u64),
     NoMemory,
 }
 

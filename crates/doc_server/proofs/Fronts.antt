@@ -46,10 +46,10 @@ module _ (bytes front : List ℕ) (used : ℕ) (used_is : used ≡ stated bytes)
   pub front-begins : (m : Message) → message front m → Begins bytes m used
   front-begins m is = record { within = within; some = low; alone = subst (λ b. message b m) front_is is }
 
-  pub front-fault : ((m : Message) → message front m → MatchResult {T = Message} (Err Malformed) (λ found. found ≡ m) (λ refused. refused ≡ NoMemory)) → fault bytes
-  front-fault only =
+  pub front-fault : (place : ℕ) → ((m : Message) → message front m → MatchResult {T = Message} (Err (Malformed place)) (λ found. found ≡ m) (λ refused. refused ≡ NoMemory)) → fault bytes
+  front-fault place only =
       let none : BeginsNone bytes = λ m piece behind cut is.
       let whole : piece ≡ front = message-front bytes piece behind m cut is ∙ ap (λ n. take n bytes) (sym used_is) ∙ sym front_is in
-      let refused : Malformed ≡ NoMemory = only m (subst (λ b. message b m) whole is) in
+      let refused : Malformed place ≡ NoMemory = only m (subst (λ b. message b m) whole is) in
       absurd cc in
       (omega arith, inr (inr ((omega (arith, used_is), omega (arith, used_is)), omega (arith, used_is), none)))

@@ -6,3 +6,4 @@ pub mod Fronts
 pub mod Framing
 pub mod Whole
 pub mod Answering
+pub mod Replies

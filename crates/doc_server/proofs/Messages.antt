@@ -57,7 +57,7 @@ pub cut-four : (bytes : List ℕ) → IsBytes bytes → 4 ≤ length bytes → b
 unfolding number_at
 cut-four bytes fits long =
     let test : ltb (length bytes) 4 ≡ false = le-ltb _ _ long in
-    (number_takes bytes (little_number 4 bytes, drop 4 bytes) fits (rw test refl)).0
+    (number_takes 0 bytes (little_number 4 bytes, drop 4 bytes) fits (rw test refl)).0
 
 and-both : (one other : Bool) → (one && other) ≡ true → (one ≡ true) × (other ≡ true)
 and-both true other both = (refl, both)

@@ -1,5 +1,4 @@
 ghost use Rattle.std.specs.Prelude.{◌≡◌, ◌++◌, ◌∷◌, ◌≤◌, ◌<◌, ◌+◌, ◌^◌, ◌%◌, [], codes, length, IfOk, OnOk, OnErr};
-ghost use Rattle.bson_wire.specs.Spelling.{IsFlat, spell};
 ghost use Rattle.doc_server.specs.Answers.{is_ping, ok_document, error_document, document_of, answer};
 
 use crate::message::Message;
@@ -74,7 +73,7 @@ fn document_for(alloc: Global, body: &Document) -> Result<Document, NoMemory>
 }
 
 /// The bytes that answer a message which comes after so many replies.
-#[tactic(auto, unfolding(crate::specs::Answers::answer))]
+#[tactic(auto, using(crate::proofs::Replies::reply_fits), unfolding(crate::specs::Answers::answer))]
 pub(crate) fn answer(alloc: Global, replies: u64, message: &Message) -> Result<Bytes, NoMemory>
     ensures { IfOk result (λ bytes. bytes ≡ answer replies message.now) }
 {

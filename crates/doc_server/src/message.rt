@@ -61,17 +61,17 @@ fn whole_message(alloc: Global, whole: &[u8]) -> Result<Message, ReadRefused>
         (λ refused. refused ≡ ReadRefused.NoMemory) }
 {
     if whole.len() < 21 {
-        return Err(ReadRefused::Malformed);
+        return Err(ReadRefused::Malformed(0));
     }
     if !is_plain(whole) {
-        return Err(ReadRefused::Malformed);
+        return Err(ReadRefused::Malformed(0));
     }
     let front = match read(alloc, tail(whole, 21)) {
         Ok(front) => front,
         Err(refused) => return Err(refused),
     };
     if front.used != whole.len() as u64 - 21 {
-        return Err(ReadRefused::Malformed);
+        return Err(ReadRefused::Malformed(0));
     }
     Ok(Message {
         request: LittleEndian::read_i32(tail(whole, 4)),
@@ -97,7 +97,7 @@ pub(crate) fn take(alloc: Global, bytes: &[u8]) -> Taken
     }
     match whole_message(alloc, head(bytes, used)) {
         Ok(message) => Taken::Whole { message, used },
-        Err(ReadRefused::Malformed) => Taken::Bad,
+        Err(ReadRefused::Malformed(_)) => Taken::Bad,
         Err(ReadRefused::NoMemory) => Taken::NoMemory,
     }
 }

@@ -1,5 +1,5 @@
 ghost use Rattle.std.specs.Prelude.{◌≡◌, ◌+◌, ◌≤◌, ◌^◌, ◌%◌, length, IfOk};
-ghost use Rattle.bson_wire.specs.Spelling.{IsFlat, spell};
+ghost use Rattle.bson_wire.specs.Spelling.{spell};
 ghost use Rattle.doc_server.specs.Reply.{header, reply};
 
 use crate::message::OP_MSG;
@@ -28,8 +28,7 @@ pub(crate) fn put_reply(
     request: i32,
     doc: &Document,
 ) -> Result<Bytes, NoMemory>
-    requires flat { IsFlat doc.now }
-    requires small { length (spell doc.now) ≤ 47999000 }
+    requires { length (spell doc.now) ≤ 47999000 }
     ensures { IfOk result (λ bytes. bytes ≡ reply number request doc.now) }
 {
     let mut bytes = Bytes::of(alloc, &[0; 21])?;

@@ -10,4 +10,4 @@ returns-in-Ok c =
 
 pub returns-in-Err-Malformed : goal.returns-in-Err-Malformed
 unfolding stated
-returns-in-Err-Malformed c = front-fault _ _ _ c.read_u32-stated.ensures c.head.ensures c.if-stated-lt-LEAST.false c.if-stated-gt-MOST.false c.if-bytes-used.false (λ m is. sym c.in-Err-Malformed.field-0-is ∙ c.in-Err-Malformed.ensures.only m is)
+returns-in-Err-Malformed c = front-fault _ _ _ c.read_u32-stated.ensures c.head.ensures c.if-stated-lt-LEAST.false c.if-stated-gt-MOST.false c.if-bytes-used.false _ (λ m is. sym c.in-Err-Malformed.field-0-is ∙ c.in-Err-Malformed.ensures.only m is)

@@ -17,8 +17,17 @@ error_fits code name sentence short =
     let one : List (Pair Value) = record { name = codes "ok"; value = value.Int (pos 0) } ∷ [] in
     let two : List (Pair Value) = one ++ record { name = codes "errmsg"; value = value.Str sentence } ∷ [] in
     let three : List (Pair Value) = two ++ record { name = codes "code"; value = value.Int code } ∷ [] in
-    omega (arith, spell-push [] (codes "ok") (value.Int (pos 0)), spell-push one (codes "errmsg") (value.Str sentence), spell-push two (codes "code") (value.Int code), spell-push three (codes "codeName") (value.Str name),
-    size-Int (pos 0), size-Str sentence, size-Int code, size-Str name)
+    omega (
+      arith,
+      spell-push [] (codes "ok") (value.Int (pos 0)),
+      spell-push one (codes "errmsg") (value.Str sentence),
+      spell-push two (codes "code") (value.Int code),
+      spell-push three (codes "codeName") (value.Str name),
+      size-Int (pos 0),
+      size-Str sentence,
+      size-Int code,
+      size-Str name,
+    )
 
 one_of : (test : Bool) (one other : List (Pair Value)) → length (spell one) ≤ 1000 → length (spell other) ≤ 1000 → length (spell (cond test one other)) ≤ 1000
 one_of true one other first second = first

@@ -6,6 +6,8 @@ mod copying;
 mod list;
 mod memory;
 mod pairs;
+mod pieces;
+mod space;
 mod text;
 mod value;
 
@@ -13,6 +15,8 @@ pub use bytes::Bytes;
 pub use list::List;
 pub use memory::NoMemory;
 pub use pairs::{Pair, Pairs};
+pub use pieces::{head, tail};
+pub use space::Space;
 pub use text::Text;
 pub use value::{Binary, Document, Regex, Value};
 

@@ -1,4 +1,4 @@
-use crate::{Binary, Bytes, Document, List, NoMemory, Regex, Text, Value};
+use crate::{Binary, Bytes, Document, List, NoMemory, Regex, Space, Text, Value};
 use std::alloc::Global;
 use std::test::Fail;
 
@@ -79,5 +79,20 @@ fn texts_bytes_and_lists_go_in_and_out_with_ample_memory(rt: HostRuntime) -> Res
     numbers.push(8u8).map_err(|_| NoMemory)?;
     assert_eq!(rt; numbers.pop(), Some(8));
     assert_eq!(rt; numbers.pop(), None);
+    Ok(())
+}
+
+#[test]
+fn a_space_is_told_apart_by_both_names(rt: HostRuntime) -> Result<(), Fail> {
+    let space = Space {
+        db: text(rt.alloc(), "t")?,
+        coll: text(rt.alloc(), "c")?,
+    };
+    let turned = Space {
+        db: text(rt.alloc(), "c")?,
+        coll: text(rt.alloc(), "t")?,
+    };
+    assert!(rt; space.copy(rt.alloc())?.is(&space));
+    assert!(rt; !space.is(&turned));
     Ok(())
 }

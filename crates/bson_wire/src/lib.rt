@@ -2,7 +2,6 @@
 #![tactic(auto)]
 
 mod laws;
-mod pieces;
 mod reader;
 mod refused;
 mod scalars;

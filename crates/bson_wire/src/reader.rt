@@ -5,10 +5,9 @@ ghost use Rattle.bson_values.specs.declared.value.Value.{Value as Held};
 ghost use Rattle.bson_wire.specs.Grammar.{spells};
 ghost use Rattle.bson_wire.specs.Reading.{Gives, Tells, value_at, element_at, all_at, document_at, array_at};
 
-use crate::pieces::{head, tail};
 use crate::refused::ReadRefused;
 use crate::scalars::{ended, length, name, part, scalar};
-use bson_values::{Document, List, Text, Value};
+use bson_values::{Document, List, Text, Value, head, tail};
 use std::alloc::Global;
 
 /// The document at the front of some bytes.

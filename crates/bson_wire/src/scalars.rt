@@ -1,9 +1,8 @@
 ghost use Rattle.std.specs.Prelude.{◌≡◌, ◌≤◌, ◌<◌, ◌==◌, ◌+◌, length, IfSome, IfOk, position};
 ghost use Rattle.bson_wire.specs.Reading.{Gives, number_at, long_at, length_at, part_at, ended_at, text_of, nul_at, name_at, string_at, binary_at, id_at, bool_at, regex_at, scalar_at};
 
-use crate::pieces::{head, tail};
 use crate::refused::ReadRefused;
-use bson_values::{Binary, Bytes, Regex, Text, Value};
+use bson_values::{Binary, Bytes, Regex, Text, Value, head, tail};
 use byteorder::{ByteOrder, LittleEndian};
 use std::alloc::Global;
 use std::str::from_utf8;

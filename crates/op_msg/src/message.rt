@@ -1,0 +1,41 @@
+use bson_values::Document;
+
+/// A request: OP_MSG with one body.
+#[derive(Debug, Drop)]
+pub struct Message {
+    /// The `requestID`, which the reply answers to.
+    pub request: i32,
+    /// The document of the section of kind 0.
+    pub body: Document,
+}
+
+/// What is wrong with the bytes of a message.
+#[derive(Clone, Copy, Debug, PartialEq, Eq)]
+pub enum BadKind {
+    /// The `messageLength` is below 16 or above 48,000,000.
+    Length,
+    /// The `opCode` is none that is spoken.
+    OpCode,
+    /// A bit of the flags is set that must be known to be ignored.
+    Flags,
+    /// A checksum follows.
+    Checksum,
+    /// A section has another kind byte, or less bytes than it says of itself.
+    Section,
+    /// There is no section of kind 0, or a second.
+    Body,
+    /// A document is malformed.
+    Document,
+}
+
+/// What stands at the front of the bytes of a stream.
+#[derive(Debug, Drop)]
+pub enum Taken {
+    /// A message, and how many bytes it takes.
+    Whole { message: Message, used: u64 },
+    /// Not all of a message yet.
+    Short,
+    /// Bytes that begin no message, whatever follows. The place of the fault is counted from their front.
+    Bad { kind: BadKind, place: u64 },
+    NoMemory,
+}

@@ -39,3 +39,6 @@ pub enum Taken {
     Bad { kind: BadKind, place: u64 },
     NoMemory,
 }
+
+/// The one opcode that is spoken.
+pub(crate) const OP_MSG: u32 = 2013;

@@ -1,0 +1,39 @@
+-- Documents within a message.
+use Rattle.std.proofs.Common.{◌≡◌, ℕ, ◌+◌, ◌≤◌, List, ◌++◌, length, take, drop, refl, sym, ap, subst, ◌∙◌, arith}
+use Rattle.std.specs.Prelude.{Option, None, Some, Result, Ok, Err, unwrap_or}
+use Rattle.std.proofs.lemmas.List.{take-append-drop}
+use Rattle.bson_wire.specs.Grammar.{spells}
+use Rattle.bson_wire.specs.declared.refused.ReadRefused.{ReadRefused}
+use Rattle.bson_wire.specs.declared.refused.ReadRefused.TheVariants.{Malformed, NoMemory}
+use Rattle.bson_wire.specs.Reading.{document_at, fault_of, fault, Tells}
+use Rattle.bson_wire.proofs.Documents.{document_again}
+use Rattle.bson_wire.proofs.Places.{NotPast, document-not}
+use Rattle.bson_wire.proofs.Values.{Doc}
+use Rattle.op_msg.specs.declared.message.BadKind.TheVariants.{Document}
+use Rattle.op_msg.specs.Reading.{in_message}
+
+module _ {A : Type 0} (place : ℕ) where
+  is-fault : (found : Result A ℕ) → fault_of found ≡ Some place → found ≡ Err place
+  is-fault (Ok it) is = absurd cc
+  is-fault (Err at) is = ap (λ (n : ℕ). Err n) (ap (λ (it : Option ℕ). unwrap_or it 0) is)
+
+  not-past : (end : ℕ) (found : Result A ℕ) → fault_of found ≡ Some place → NotPast end found → place ≤ end
+  not-past end (Ok it) is one = absurd cc
+  not-past end (Err at) is one = omega (arith, one, ap (λ (it : Option ℕ). unwrap_or it 0) is)
+
+same-place : (place at : ℕ) → Malformed place ≡ Malformed at → place ≡ at
+same-place place at is = cc
+
+-- a fault stands within the bytes, or at their end
+pub fault-near : (bytes : List ℕ) (refused : ReadRefused) (at : ℕ) → Tells refused bytes → refused ≡ Malformed at → at ≤ length bytes
+fault-near bytes NoMemory at tells is = absurd cc
+fault-near bytes (Malformed place) at tells is = omega (arith, same-place place at is, not-past place (length bytes) (document_at 128 (length bytes) bytes) tells (document-not (length bytes) bytes))
+
+pub fault-at : (place at : ℕ) (bytes : List ℕ) (refused : ReadRefused) → Tells refused bytes → refused ≡ Malformed at → in_message place (document_at 128 (length bytes) bytes) ≡ Err (Document, place + at)
+fault-at place at bytes NoMemory tells is = absurd cc
+fault-at place at bytes (Malformed found) tells is = ap (in_message place) (is-fault found (document_at 128 (length bytes) bytes) tells) ∙ ap (λ (n : ℕ). Err (Document, place + n)) (same-place found at is)
+
+pub found-at : (place used : ℕ) (bytes rest : List ℕ) (doc : Doc) → (used ≤ length bytes) × spells (take used bytes) doc → rest ≡ drop used bytes → in_message place (document_at 128 (length bytes) bytes) ≡ Ok (doc, rest)
+found-at place used bytes rest doc found rest_is =
+    let whole = document_again (length bytes) (take used bytes) (drop used bytes) doc found.1 in
+    ap (λ (b : List ℕ). in_message place (document_at 128 (length bytes) b)) (sym (take-append-drop used bytes)) ∙ ap (in_message place) whole ∙ ap (λ (r : List ℕ). Ok (doc, r)) (sym rest_is)

@@ -1,15 +1,18 @@
 -- A whole input, answered message by message.
 use Rattle.std.proofs.Common.{◌≡◌, ℕ, ◌+◌, ◌≤◌, List, [], ◌∷◌, ◌++◌, length, take, drop, sym, ap, subst, ◌∙◌, arith, length-append, length-drop}
+use Rattle.std.specs.Prelude.{Some}
 use Rattle.std.proofs.lemmas.List.{take-append-drop, map-append, length-map}
-use Rattle.doc_server.specs.declared.message.Message.{Message}
+use Rattle.op_msg.specs.declared.message.Message.{Message}
 use Rattle.doc_server.specs.Answers.{answer}
-use Rattle.doc_server.specs.Stream.{in_order, frames, short, fault, BeginsNone}
+use Rattle.op_msg.specs.Stream.{in_order, frames}
+use Rattle.op_msg.specs.Reading.{Fault, short, fault}
+use Rattle.op_msg.specs.Front.{Begins}
+use Rattle.op_msg.proofs.Framing.{in_order-on}
+use Rattle.op_msg.proofs.Fronts.{short-none, fault-none}
 use Rattle.doc_server.specs.Script.{Executed, bytes_of}
 use Rattle.doc_server.specs.Program.{script_of}
-use Rattle.doc_server.specs.Steps.{Begins}
 use Rattle.doc_server.proofs.Growth.{append-nil}
-use Rattle.doc_server.proofs.Scripts.{bytes_from-last, in_order-on}
-use Rattle.doc_server.proofs.Framing.{none-short, fault-more}
+use Rattle.doc_server.proofs.Scripts.{bytes_from-last}
 
 -- so many messages were answered, and this rest is left
 abbrev pub AnsweredSoFar : List ℕ → List ℕ → ℕ → List ℕ → Type 0
@@ -32,9 +35,7 @@ pub answers-room : (rest behind : List ℕ) (replies used all : ℕ) (m : Messag
 answers-room rest behind replies used all m room front is = omega (arith, room, front.some, front.within, ap length is, length-drop used rest)
 
 pub answers-short : (input rest : List ℕ) (replies : ℕ) (bytes : List ℕ) → AnsweredSoFar input rest replies bytes → short rest → (ms : List Message) × (rest : List ℕ) × frames input ms rest × (bytes ≡ bytes_of (script_of ms))
-answers-short input rest replies bytes so low = (so.0, rest, record { order = so.1; none_more = none-short rest low }, so.3)
+answers-short input rest replies bytes so low = (so.0, rest, record { order = so.1; none_more = short-none rest low }, so.3)
 
-pub answers-bad : (input rest : List ℕ) (replies : ℕ) (bytes : List ℕ) → AnsweredSoFar input rest replies bytes → fault rest → (ms : List Message) × (rest : List ℕ) × frames input ms rest × (bytes ≡ bytes_of (script_of ms))
-answers-bad input rest replies bytes so bad =
-    let none = subst (λ b. BeginsNone b) (append-nil rest) (fault-more rest [] bad).1 in
-    (so.0, rest, record { order = so.1; none_more = none }, so.3)
+pub answers-bad : (input rest : List ℕ) (replies : ℕ) (bytes : List ℕ) → AnsweredSoFar input rest replies bytes → (f : Fault) → fault rest ≡ Some f → (ms : List Message) × (rest : List ℕ) × frames input ms rest × (bytes ≡ bytes_of (script_of ms))
+answers-bad input rest replies bytes so f bad = (so.0, rest, record { order = so.1; none_more = fault-none rest f bad }, so.3)

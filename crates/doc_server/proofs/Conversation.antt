@@ -3,16 +3,19 @@ use Rattle.std.proofs.Common.{◌≡◌, ℕ, ◌+◌, ◌≤◌, ◌<◌, ◌^�
 use Rattle.std.proofs.lemmas.List.{take-append-drop, drop-drop}
 use Rattle.std.proofs.Math.Seq.{take-append-add}
 use Rattle.outside.specs.Told.{Grows}
-use Rattle.doc_server.specs.declared.message.Message.{Message}
+use Rattle.op_msg.specs.declared.message.Message.{Message}
 use Rattle.doc_server.specs.declared.why.Why.{Why}
 use Rattle.doc_server.specs.declared.why.Why.TheVariants.{Closed, Truncated, BadFrame, ReadFault, WriteFault, Long, NoMemory}
 use Rattle.doc_server.specs.Answers.{answer}
-use Rattle.doc_server.specs.Stream.{message, in_order, short}
+use Rattle.op_msg.specs.Stream.{message, in_order}
+use Rattle.op_msg.specs.Reading.{short}
+use Rattle.op_msg.specs.Front.{Begins}
+use Rattle.op_msg.proofs.Framing.{in_order-more, in_order-on}
 use Rattle.doc_server.specs.Script.{Executed, messages, bytes_of}
 use Rattle.doc_server.specs.Talk.{Scene, Wrote, Ends, Talk, Talks}
-use Rattle.doc_server.specs.Steps.{Begins, Stops, Moves}
+use Rattle.doc_server.specs.Steps.{Stops, Moves}
 use Rattle.doc_server.proofs.Growth.{append-nil, grows-none, grows-on, shrinks-none, shrinks-on}
-use Rattle.doc_server.proofs.Scripts.{messages-append, bytes_from-last, in_order-more, in_order-on}
+use Rattle.doc_server.proofs.Scripts.{messages-append, bytes_from-last}
 
 -- a conversation that goes on, of which so many bytes came
 abbrev pub Going : Scene → Scene → ℕ → ℕ → List ℕ → Type 0
@@ -108,7 +111,7 @@ module _ (old mid new : Scene) (commands count : ℕ) (rest buffer : List ℕ) w
   stops NoMemory going is low stop =
       let talk = came old mid new commands going.0 stop.0 going.1 rest going.3 stop.1 in
       (going.0 ++ stop.0, going.1, rest ++ stop.0, record { taken = talk.taken; came = talk.came; order = talk.order; written = talk.written; count = talk.count }, tt)
-  stops BadFrame going is low stop = absurd stop.2
+  stops (BadFrame kind place) going is low stop = absurd stop.2
   stops WriteFault going is low stop = absurd stop.2
 
   -- a piece came

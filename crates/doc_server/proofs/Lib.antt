@@ -1,9 +1,6 @@
 pub mod Growth
 pub mod Scripts
 pub mod Conversation
-pub mod Messages
-pub mod Fronts
-pub mod Framing
 pub mod Whole
 pub mod Answering
 pub mod Replies

@@ -4,13 +4,13 @@ use Rattle.std.specs.Prelude.{Option, None, Some}
 use Rattle.outside.specs.Told.{Tells, Grows, Shrinks}
 use Rattle.doc_server.specs.declared.why.Why.{Why}
 use Rattle.doc_server.specs.declared.why.Why.TheVariants.{Closed, Truncated, BadFrame, ReadFault, WriteFault, Long, NoMemory}
-use Rattle.doc_server.specs.Stream.{in_order, BeginsNone}
+use Rattle.op_msg.specs.Stream.{in_order, BeginsNone}
+use Rattle.op_msg.proofs.Framing.{none-empty, in_order-more}
+use Rattle.op_msg.proofs.Fronts.{short-none, fault-none, fault-more}
 use Rattle.doc_server.specs.Script.{Executed, messages, bytes_of}
 use Rattle.doc_server.specs.Talk.{Scene, Wrote, Ends, AtEnd, Talks}
 use Rattle.doc_server.specs.Program.{End, TellsAnswers, Spoke, IsCutOff, Shows, script_of, Answered, AnswersAll}
 use Rattle.doc_server.proofs.Growth.{append-nil}
-use Rattle.doc_server.proofs.Scripts.{in_order-more}
-use Rattle.doc_server.proofs.Framing.{none-empty, none-short, fault-more}
 
 -- what came after nothing is all
 tells-all : (old new : Option (List ℕ)) (all : List ℕ) → Tells old [] → Grows old new all → Tells new all
@@ -22,7 +22,7 @@ tells-all (Some old) (Some new) all none grows = grows ∙ ap (λ b. b ++ all) n
 tells-answers : (why : Why) (old new : Option (List ℕ)) (all : List ℕ) → Tells old [] → Wrote why old new all → TellsAnswers why new all
 tells-answers Closed old new all none wrote = tells-all old new all none wrote
 tells-answers (Truncated size) old new all none wrote = tells-all old new all none wrote
-tells-answers BadFrame old new all none wrote = tells-all old new all none wrote
+tells-answers (BadFrame kind place) old new all none wrote = tells-all old new all none wrote
 tells-answers ReadFault old new all none wrote = tells-all old new all none wrote
 tells-answers WriteFault old new all none wrote = (wrote.0, tells-all old new (take wrote.0 all) none wrote.1)
 tells-answers Long old new all none wrote = tells-all old new all none wrote
@@ -49,8 +49,8 @@ length-messages (t ∷ ts) = omega (arith, length-messages ts)
 shown : (why : Why) (all rest left : List ℕ) → Ends why all rest → AtEnd why (Some left) → IsCutOff why ⊎ (Shows why (rest ++ left) × BeginsNone (rest ++ left))
 shown Closed all rest left ends at_end = inr (subst (λ b. Shows Closed b × BeginsNone b) (sym (ap (λ l. rest ++ l) at_end ∙ append-nil rest)) (ends.0, subst BeginsNone (sym ends.0) none-empty))
 shown (Truncated size) all rest left ends at_end =
-    inr (subst (λ b. Shows (Truncated size) b × BeginsNone b) (sym (ap (λ l. rest ++ l) at_end ∙ append-nil rest)) ((ends.0, ends.1, ends.2), none-short rest ends.2))
-shown BadFrame all rest left ends at_end = inr (fault-more rest left ends)
+    inr (subst (λ b. Shows (Truncated size) b × BeginsNone b) (sym (ap (λ l. rest ++ l) at_end ∙ append-nil rest)) ((ends.0, ends.1, ends.2), short-none rest ends.2))
+shown (BadFrame kind place) all rest left ends at_end = let bad = fault-more rest left (kind, place) ends in inr (bad, fault-none (rest ++ left) (kind, place) bad)
 shown ReadFault all rest left ends at_end = inl tt
 shown WriteFault all rest left ends at_end = inl tt
 shown Long all rest left ends at_end = inl tt
@@ -60,7 +60,7 @@ shown NoMemory all rest left ends at_end = inl tt
 told-whole : (why : Why) (rest : List ℕ) (told : Option (List ℕ)) (all : List ℕ) → Shows why rest → TellsAnswers why told all → Tells told all
 told-whole Closed rest told all shows tells = tells
 told-whole (Truncated size) rest told all shows tells = tells
-told-whole BadFrame rest told all shows tells = tells
+told-whole (BadFrame kind place) rest told all shows tells = tells
 told-whole ReadFault rest told all shows tells = absurd shows
 told-whole WriteFault rest told all shows tells = absurd shows
 told-whole Long rest told all shows tells = absurd shows

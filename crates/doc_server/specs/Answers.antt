@@ -4,8 +4,8 @@ use Rattle.std.specs.Str.{bytes_eq}
 use Rattle.bson_values.specs.declared.pairs.Pair.{Pair}
 use Rattle.bson_values.specs.declared.value.Value.{Value}
 use Rattle.bson_values.specs.declared.value.Value.TheVariants as value
-use Rattle.doc_server.specs.declared.message.Message.{Message}
-use Rattle.doc_server.specs.Reply.{reply}
+use Rattle.op_msg.specs.declared.message.Message.{Message}
+use Rattle.op_msg.specs.Reply.{reply}
 
 -- {ok: 1}
 abbrev pub ok_document : List (Pair Value)
@@ -30,4 +30,4 @@ document_of body = if is_ping body then ok_document else error_document (pos 59)
 
 -- the reply to a message that comes after k replies
 unfoldable pub answer : ℕ → Message → List ℕ
-answer k m = reply ((k + 1) % 2 ^ 31) m.request (document_of m.body)
+answer k m = reply (pos ((k + 1) % 2 ^ 31)) m.request (document_of m.body)

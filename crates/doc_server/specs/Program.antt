@@ -2,10 +2,11 @@
 use Rattle.std.specs.Prelude.{ℕ, ◌≡◌, ◌≢◌, ◌⊎◌, Bool, false, List, [], ◌∷◌, length, take, map, codes, Option, None, Some}
 use Rattle.std.specs.Str.{bytes_eq}
 use Rattle.outside.specs.Told.{Tells}
-use Rattle.doc_server.specs.declared.message.Message.{Message}
+use Rattle.op_msg.specs.declared.message.Message.{Message}
 use Rattle.doc_server.specs.declared.why.Why.{Why}
 use Rattle.doc_server.specs.declared.why.Why.TheVariants.{Closed, Truncated, BadFrame, ReadFault, WriteFault, Long, NoMemory}
-use Rattle.doc_server.specs.Stream.{in_order, frames, short, fault}
+use Rattle.op_msg.specs.Stream.{in_order, frames}
+use Rattle.op_msg.specs.Reading.{short, fault}
 use Rattle.doc_server.specs.Script.{Executed, messages, bytes_of}
 use Rattle.doc_server.specs.Talk.{Ends}
 
@@ -19,7 +20,7 @@ abbrev pub status_of : Why → ℕ
 status_of Closed = 0
 status_of WriteFault = 4
 status_of (Truncated size) = 6
-status_of BadFrame = 7
+status_of (BadFrame kind place) = 7
 status_of ReadFault = 8
 status_of NoMemory = 9
 status_of Long = 10
@@ -64,7 +65,7 @@ IsCutOff why = ⊥
 abbrev pub Shows : Why → List ℕ → Type 0
 Shows Closed rest = rest ≡ []
 Shows (Truncated size) rest = (size ≡ length rest) × (rest ≢ []) × short rest
-Shows BadFrame rest = fault rest
+Shows (BadFrame kind place) rest = fault rest ≡ Some (kind, place)
 Shows why rest = ⊥
 
 -- the script in which each message is executed

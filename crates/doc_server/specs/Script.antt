@@ -1,6 +1,6 @@
 -- The script of a connection: its executed messages, and what is written for them.
 use Rattle.std.specs.Prelude.{ℕ, ◌+◌, List, [], ◌∷◌, ◌++◌}
-use Rattle.doc_server.specs.declared.message.Message.{Message}
+use Rattle.op_msg.specs.declared.message.Message.{Message}
 use Rattle.doc_server.specs.Answers.{answer}
 
 -- one executed message

@@ -1,28 +1,11 @@
 -- What one step of a conversation does. Links between contracts; nobody has to read them for the main clause.
 use Rattle.std.specs.Prelude.{ℕ, ◌≡◌, ◌≢◌, ◌+◌, ◌≤◌, ◌<◌, ◌^◌, List, [], ◌++◌, length, take, Option, Result, Ok, Err}
 use Rattle.outside.specs.Told.{Grows, Shrinks}
-use Rattle.doc_server.specs.Stream.{message, short, fault}
 use Rattle.doc_server.specs.Talk.{Scene}
-use Rattle.doc_server.specs.declared.message.Message.{Message}
-use Rattle.doc_server.specs.declared.message.Taken.{Taken}
-use Rattle.doc_server.specs.declared.message.Taken.TheVariants as taken
 use Rattle.doc_server.specs.declared.serve.Replied.{Replied}
 use Rattle.doc_server.specs.declared.serve.Replied.TheVariants as replied
 use Rattle.doc_server.specs.declared.why.Why.{Why}
 use Rattle.doc_server.specs.declared.why.Why.TheVariants as why
-
--- the first bytes are the message
-pub record Begins (bytes : List ℕ) (m : Message) (used : ℕ) : Type 0 where
-  pub within : used ≤ length bytes
-  pub some : 16 ≤ used
-  pub alone : message (take used bytes) m
-
--- what was taken is what stands at the front
-abbrev pub Takes : Taken → List ℕ → Type 0
-Takes (taken.Whole m used) bytes = Begins bytes m used
-Takes taken.Short bytes = short bytes
-Takes taken.Bad bytes = fault bytes
-Takes taken.NoMemory bytes = Unit {0}
 
 -- the answer was written, or a front of it where a write failed, or nothing for want of memory
 abbrev pub Answers : Replied → Option (List ℕ) → Option (List ℕ) → List ℕ → Type 0

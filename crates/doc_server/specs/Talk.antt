@@ -1,8 +1,9 @@
 -- One connection: what came, its script, what was written, and how it ended.
-use Rattle.std.specs.Prelude.{ℕ, ◌≡◌, ◌≢◌, ◌<◌, ◌^◌, List, [], length, take, Option}
+use Rattle.std.specs.Prelude.{ℕ, ◌≡◌, ◌≢◌, ◌<◌, ◌^◌, List, [], length, take, Option, Some}
 use Rattle.outside.specs.Told.{Grows, Shrinks, Tells}
 use Rattle.outside.specs.Causes.{Rose}
-use Rattle.doc_server.specs.Stream.{in_order, short, fault}
+use Rattle.op_msg.specs.Stream.{in_order}
+use Rattle.op_msg.specs.Reading.{short, fault}
 use Rattle.doc_server.specs.Script.{Executed, messages, bytes_of}
 use Rattle.doc_server.specs.declared.why.Why.{Why}
 use Rattle.doc_server.specs.declared.why.Why.TheVariants.{Closed, Truncated, BadFrame, ReadFault, WriteFault, Long, NoMemory}
@@ -16,7 +17,7 @@ Wrote why old new all = Grows old new all
 abbrev pub Ends : Why → List ℕ → List ℕ → Type 0
 Ends Closed all rest = (rest ≡ []) × (length all < 2 ^ 40)
 Ends (Truncated size) all rest = (size ≡ length rest) × (rest ≢ []) × short rest × (length all < 2 ^ 40)
-Ends BadFrame all rest = fault rest
+Ends (BadFrame kind place) all rest = fault rest ≡ Some (kind, place)
 Ends ReadFault all rest = short rest × (length all < 2 ^ 40)
 Ends WriteFault all rest = Unit {0}
 Ends Long all rest = short rest × (length all ≡ 2 ^ 40)

@@ -1,9 +1,8 @@
 ghost use Rattle.std.specs.Prelude.{◌≡◌, ◌++◌, ◌∷◌, ◌≤◌, ◌<◌, ◌+◌, ◌^◌, ◌%◌, [], codes, length, IfOk, OnOk, OnErr};
 ghost use Rattle.doc_server.specs.Answers.{is_ping, ok_document, error_document, document_of, answer};
 
-use crate::message::Message;
-use crate::reply::put_reply;
 use bson_values::{Bytes, Document, NoMemory, Text, Value};
+use op_msg::{Message, put_reply};
 use std::alloc::Global;
 
 /// Why a command is refused: the number, its name and the sentence that the client is told.
@@ -78,6 +77,6 @@ pub(crate) fn answer(alloc: Global, replies: u64, message: &Message) -> Result<B
     ensures { IfOk result (λ bytes. bytes ≡ answer replies message.now) }
 {
     let doc = document_for(alloc, &message.body)?;
-    let number = (replies.wrapping_add(1) % 0x8000_0000) as u32;
+    let number = (replies.wrapping_add(1) % 0x8000_0000) as i32;
     put_reply(alloc, number, message.request, &doc)
 }

@@ -1,6 +1,4 @@
-ghost use Rattle.std.specs.Prelude.{◌≡◌, ℕ, List};
-ghost use Rattle.doc_server.specs.declared.message.Message.{Message};
-ghost use Rattle.doc_server.specs.Stream.{frames};
+ghost use Rattle.std.specs.Prelude.{◌≡◌, ℕ};
 ghost use Rattle.doc_server.specs.declared.why.Why.{Why as End};
 ghost use Rattle.doc_server.specs.Talk.{Faults};
 ghost use Rattle.doc_server.specs.Program.{status_of, IsSureStatus};
@@ -8,10 +6,4 @@ ghost use Rattle.doc_server.specs.Program.{status_of, IsSureStatus};
 /// Over a console whose counts of faults stay 0 the status of `pipe` is 0, 6, 7, 9 or 10.
 pub fn a_console_that_cannot_fail_has_no_fault()
     ensures { (why : End) → Faults why 0 0 0 0 → IsSureStatus (status_of why) }
-{}
-
-/// A stream is framed in one way, so it does not matter in which pieces it comes.
-pub fn a_stream_has_one_framing()
-    ensures { (bytes : List ℕ) (ms ns : List Message) (rest other : List ℕ)
-        → frames bytes ms rest → frames bytes ns other → (ms ≡ ns) × (rest ≡ other) }
 {}

@@ -1,13 +1,12 @@
 ghost use Rattle.std.specs.Prelude.{◌≡◌, ℕ, List, IfOk};
-ghost use Rattle.doc_server.specs.declared.message.Message.{Message};
-ghost use Rattle.doc_server.specs.Stream.{frames};
+ghost use Rattle.op_msg.specs.declared.message.Message.{Message};
+ghost use Rattle.op_msg.specs.Stream.{frames};
 ghost use Rattle.doc_server.specs.Script.{bytes_of};
 ghost use Rattle.doc_server.specs.Program.{script_of};
 
 use crate::answers::answer;
-use crate::message::{Taken, take};
-use crate::pieces::tail;
-use bson_values::{Bytes, NoMemory};
+use bson_values::{Bytes, NoMemory, tail};
+use op_msg::{Taken, take};
 use std::alloc::Global;
 
 /// The answers to all messages of a whole input, as the definition has them: the plain program to
@@ -25,11 +24,11 @@ pub fn answers_to(alloc: Global, input: &[u8]) -> Result<Bytes, NoMemory>
                 let answered = answer(alloc, replies, &message);
                 drop(message);
                 bytes.extend(answered?.as_slice())?;
-                rest = tail(rest, used);
+                rest = tail(rest, used as usize);
                 replies += 1;
             }
             Taken::Short => return Ok(bytes),
-            Taken::Bad => return Ok(bytes),
+            Taken::Bad { .. } => return Ok(bytes),
             Taken::NoMemory => return Err(NoMemory),
         }
     }

@@ -25,7 +25,7 @@ fn status(why: &Why) -> u8
         Why::Closed => 0,
         Why::WriteFault => 4,
         Why::Truncated(_) => 6,
-        Why::BadFrame => 7,
+        Why::BadFrame(_, _) => 7,
         Why::ReadFault => 8,
         Why::NoMemory => 9,
         Why::Long => 10,

@@ -1,4 +1,4 @@
-ghost use Rattle.std.specs.Prelude.{◌≡◌, ◌≤◌, ◌<◌, ◌==◌, ◌+◌, ◌^◌, ℕ, if◌then◌else◌, List, length, take, IfErr, OnOk, OnErr};
+ghost use Rattle.std.specs.Prelude.{◌≡◌, ◌≤◌, ◌<◌, ◌==◌, ◌+◌, ◌^◌, ℕ, if◌then◌else◌, List, length, take, drop, IfErr, OnOk, OnErr};
 ghost use Rattle.outside.specs.Told.{Grows};
 ghost use Rattle.outside.specs.Causes.{HasCause};
 ghost use Rattle.doc_server.specs.Answers.{answer};
@@ -6,9 +6,9 @@ ghost use Rattle.doc_server.specs.Talk.{scene, Talks, AtEnd, Faults};
 ghost use Rattle.doc_server.specs.Steps.{Fetches, Moves, Answers, end_of, fault_of};
 
 use crate::answers::answer;
-use crate::message::{Message, Taken, take};
-use crate::pieces::{drop_front, head, tail};
 use crate::why::Why;
+use bson_values::{head, tail};
+use op_msg::{Message, Taken, take};
 use outside::{Failed, Link};
 use std::alloc::Global;
 
@@ -74,6 +74,16 @@ fn at_end(len: usize) -> Why
         Why::Closed
     } else {
         Why::Truncated(len as u64)
+    }
+}
+
+/// Takes the first `len` bytes away. The others are moved only where there are such.
+fn drop_front(buffer: &mut Vec<u8>, len: usize)
+    requires { len ≤ length buffer.old.items }
+    ensures { buffer.new.items ≡ drop len buffer.old.items }
+{
+    if len > 0 {
+        buffer.drain(..len);
     }
 }
 
@@ -165,7 +175,7 @@ fn converse<L: Link>(alloc: Global, link: &mut L) -> Said
                     Replied::WriteFault => return Said::of(Why::WriteFault, commands + 1),
                     Replied::NoMemory => return Said::of(Why::NoMemory, commands),
                 }
-                used += len;
+                used += len as usize;
                 commands += 1;
             }
             Taken::Short => {
@@ -176,7 +186,7 @@ fn converse<L: Link>(alloc: Global, link: &mut L) -> Said
                     Err(why) => return Said::of(why, commands),
                 }
             }
-            Taken::Bad => return Said::of(Why::BadFrame, commands),
+            Taken::Bad { kind, place } => return Said::of(Why::BadFrame(kind, place), commands),
             Taken::NoMemory => return Said::of(Why::NoMemory, commands),
         }
     }

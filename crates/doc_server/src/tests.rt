@@ -213,6 +213,60 @@ impl Link for Slow {
     }
 }
 
+/// A message whose body has so many levels: the innermost is empty, and each other has one field of empty name.
+fn nested(alloc: Global, levels: u32) -> Result<Bytes, NoMemory> {
+    let size = 7 * levels - 2;
+    let mut bytes = Bytes::of(alloc, &(size + 21).to_le_bytes())?;
+    bytes.extend(&[1, 0, 0, 0, 0, 0, 0, 0, 0xdd, 7, 0, 0, 0, 0, 0, 0, 0])?;
+    for level in 1..levels {
+        bytes.extend(&(size - 7 * (level - 1)).to_le_bytes())?;
+        bytes.extend(&[3, 0])?;
+    }
+    bytes.extend(&[5, 0, 0, 0, 0])?;
+    for _ in 1..levels {
+        bytes.extend(&[0])?;
+    }
+    Ok(bytes)
+}
+
+#[test]
+fn a_bad_message_is_told_by_its_kind_and_place(rt: HostRuntime) -> Result<(), Fail> {
+    let deep = nested(rt.alloc(), 128)?;
+    let deeper = nested(rt.alloc(), 129)?;
+    let rows: [(&str, &[u8], &str, &[u8]); 4] = [
+        (
+            "48,000,001 bytes",
+            &[1, 0x6c, 0xdc, 2],
+            "BadFrame(Length, 0)",
+            &OK[21..],
+        ),
+        (
+            "48,000,000 bytes",
+            &[0, 0x6c, 0xdc, 2],
+            "Truncated(4)",
+            &OK[21..],
+        ),
+        ("128 levels", deep.as_slice(), "Closed", &NOT_FOUND[21..]),
+        (
+            "129 levels",
+            deeper.as_slice(),
+            "BadFrame(Document, 789)",
+            &OK[21..],
+        ),
+    ];
+    for (name, bytes, why, last) in rows {
+        let mut input = Bytes::of(rt.alloc(), &PING)?;
+        input.extend(bytes)?;
+        let link = link(rt.alloc(), input.as_slice(), 65_536, &[], &[])?;
+        let ended = serve_link(rt.alloc(), link, 0, 0);
+        let told = format!(in rt.alloc(); "{:?}", ended.why)?;
+        assert_eq!(rt; told.as_str(), why, "{name}");
+        let written = ended.link.written().unwrap_or(b"");
+        assert!(rt; written.ends_with(last), "{name}: the last answer");
+    }
+    Ok(())
+}
+
 fn served(alloc: Global, bad_writes: &[u64]) -> Result<Ended<Slow>, NoMemory> {
     let link = link(alloc, &PING, 65_536, &[], bad_writes)?;
     Ok(serve_link(alloc, Slow { link, shuts: 0 }, 3, 5))

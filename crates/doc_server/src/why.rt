@@ -1,3 +1,5 @@
+use op_msg::BadKind;
+
 /// How a connection ended.
 #[derive(Debug, Drop)]
 pub enum Why {
@@ -5,8 +7,8 @@ pub enum Why {
     Closed,
     /// The input ended within a message, of which so many bytes had come.
     Truncated(u64),
-    /// What came next is no message.
-    BadFrame,
+    /// What came next is no message: the kind of the fault, and its place, counted from the front of that message.
+    BadFrame(BadKind, u64),
     /// A read failed.
     ReadFault,
     /// A write failed.

@@ -13,3 +13,6 @@ pub use laws::{
 pub use message::{BadKind, Message, Taken};
 pub use reply::put_reply;
 pub use taking::take;
+
+#[cfg(test)]
+mod tests;

@@ -21,7 +21,6 @@ const LEAST: u32 = 16;
 
 const MOST: u32 = 48_000_000;
 
-
 /// The sections, behind the header and the flags. The flags' two low bytes are bits 0 to 15; the higher bits may be ignored.
 #[tactic(auto, unfolding(crate::specs::Reading::sections_at))]
 fn sections(whole: &[u8]) -> Result<&[u8], Refused>
@@ -29,14 +28,23 @@ fn sections(whole: &[u8]) -> Result<&[u8], Refused>
     ensures shorter { IfOk result (λ it. length it.now ≤ length whole.now) }
 {
     if whole.len() < 20 {
-        return Err(Refused::Bad { kind: BadKind::Section, place: 16 });
+        return Err(Refused::Bad {
+            kind: BadKind::Section,
+            place: 16,
+        });
     }
     let flags = LittleEndian::read_u16(tail(whole, 16));
     if flags > 1 {
-        return Err(Refused::Bad { kind: BadKind::Flags, place: 16 });
+        return Err(Refused::Bad {
+            kind: BadKind::Flags,
+            place: 16,
+        });
     }
     if flags == 1 {
-        return Err(Refused::Bad { kind: BadKind::Checksum, place: 16 });
+        return Err(Refused::Bad {
+            kind: BadKind::Checksum,
+            place: 16,
+        });
     }
     Ok(tail(whole, 20))
 }
@@ -89,7 +97,10 @@ fn body(alloc: Global, sections: &[u8], end: u64) -> Result<Document, Refused>
     ensures { Gives (λ it. it) result (body_at end sections.now) }
 {
     if sections.len() == 0 {
-        return Err(Refused::Bad { kind: BadKind::Body, place: end });
+        return Err(Refused::Bad {
+            kind: BadKind::Body,
+            place: end,
+        });
     }
     let (doc, rest) = section(alloc, sections, end - sections.len() as u64)?;
     if rest.len() == 0 {
@@ -97,7 +108,10 @@ fn body(alloc: Global, sections: &[u8], end: u64) -> Result<Document, Refused>
     }
     let place = end - rest.len() as u64;
     match section(alloc, rest, place) {
-        Ok(_) => Err(Refused::Bad { kind: BadKind::Body, place }),
+        Ok(_) => Err(Refused::Bad {
+            kind: BadKind::Body,
+            place,
+        }),
         Err(refused) => Err(refused),
     }
 }
@@ -129,22 +143,34 @@ pub fn take(alloc: Global, bytes: &[u8]) -> Taken
     }
     let stated = LittleEndian::read_u32(bytes);
     if stated < LEAST {
-        return Taken::Bad { kind: BadKind::Length, place: 0 };
+        return Taken::Bad {
+            kind: BadKind::Length,
+            place: 0,
+        };
     }
     if stated > MOST {
-        return Taken::Bad { kind: BadKind::Length, place: 0 };
+        return Taken::Bad {
+            kind: BadKind::Length,
+            place: 0,
+        };
     }
     if bytes.len() < 16 {
         return Taken::Short;
     }
     if LittleEndian::read_u32(tail(bytes, 12)) != OP_MSG {
-        return Taken::Bad { kind: BadKind::OpCode, place: 12 };
+        return Taken::Bad {
+            kind: BadKind::OpCode,
+            place: 12,
+        };
     }
     if bytes.len() < stated as usize {
         return Taken::Short;
     }
     match message(alloc, head(bytes, stated as usize)) {
-        Ok(message) => Taken::Whole { message, used: stated as u64 },
+        Ok(message) => Taken::Whole {
+            message,
+            used: stated as u64,
+        },
         Err(Refused::Bad { kind, place }) => Taken::Bad { kind, place },
         Err(Refused::NoMemory) => Taken::NoMemory,
     }

@@ -14,4 +14,4 @@ pub returns-in-Short : goal.returns-in-Short
 returns-in-Short c = answers-short _ _ _ _ c.loop-message.invariant.answered c.in-Short.ensures
 
 pub returns-in-Bad : goal.returns-in-Bad
-returns-in-Bad c = answers-bad _ _ _ _ c.loop-message.invariant.answered c.in-Bad.ensures
+returns-in-Bad c = answers-bad _ _ _ _ c.loop-message.invariant.answered _ c.in-Bad.ensures

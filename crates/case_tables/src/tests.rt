@@ -1,0 +1,80 @@
+use crate::{
+    CODES, Case, CaseTable, DUPLICATE_KEY, KINDS, NOT_SUPPORTED, TYPES, code_name_of, code_of,
+    tables_are_distinct, text_of,
+};
+use std::test::Fail;
+
+#[test]
+fn the_tables_are_distinct(rt: HostRuntime) -> Result<(), Fail> {
+    assert!(rt; tables_are_distinct());
+    Ok(())
+}
+
+#[test]
+fn types_are_found_by_code_and_by_name(rt: HostRuntime) -> Result<(), Fail> {
+    for (code, name) in [
+        (5, "binData"),
+        (16, "int"),
+        (255, "minKey"),
+        (127, "maxKey"),
+    ] {
+        let Some(by_code) = TYPES.by_code(code) else {
+            panic!(rt; "no type {code}");
+        };
+        assert_eq!(rt; by_code.name, name);
+        let Some(by_name) = TYPES.by_name(name) else {
+            panic!(rt; "no type {name}");
+        };
+        assert_eq!(rt; by_name.code, code);
+    }
+    assert!(rt; TYPES.by_code(20).is_none());
+    assert!(rt; TYPES.by_name("Double").is_none());
+    Ok(())
+}
+
+#[test]
+fn the_first_row_is_found_where_two_clash(rt: HostRuntime) -> Result<(), Fail> {
+    let mut table = TYPES;
+    table.rows[1] = Case {
+        code: 1,
+        name: "string",
+    };
+    assert!(rt; !table.distinct(), "one code twice");
+    assert!(rt; matches!(table.by_code(1), Some(Case { name: "double", .. })));
+    table.rows[1] = Case {
+        code: 2,
+        name: "double",
+    };
+    assert!(rt; !table.distinct(), "one name twice");
+    assert!(rt; matches!(table.by_name("double"), Some(Case { code: 1, .. })));
+    Ok(())
+}
+
+#[test]
+fn a_kind_has_a_code_its_name_and_a_sentence(rt: HostRuntime) -> Result<(), Fail> {
+    assert_eq!(rt; code_of(NOT_SUPPORTED), 238);
+    assert_eq!(rt; code_name_of(NOT_SUPPORTED), "NotImplemented");
+    assert_eq!(rt; text_of(NOT_SUPPORTED), "not supported");
+    assert_eq!(rt; code_of(DUPLICATE_KEY), 11000);
+    assert!(rt;
+        matches!(
+            KINDS.by_code(31),
+            Some(Case {
+                name: "duplicate key",
+                ..
+            })
+        )
+    );
+    assert!(rt;
+        matches!(
+            CODES.by_name("DuplicateKey"),
+            Some(Case { code: 11000, .. })
+        )
+    );
+    for number in [0, 35] {
+        assert_eq!(rt; code_of(number), 0);
+        assert_eq!(rt; code_name_of(number), "");
+        assert_eq!(rt; text_of(number), "");
+    }
+    Ok(())
+}

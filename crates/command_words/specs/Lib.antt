@@ -1,0 +1,5 @@
+pub mod Namespace
+pub mod Body
+pub mod Plain
+pub mod Refusal
+pub mod Meaning

@@ -1,0 +1,44 @@
+-- What a message asks for that is not refused.
+use Rattle.std.specs.Prelude.{ℕ, List, [], ◌∷◌, Option, None, Some, codes}
+use Rattle.bson_values.specs.declared.pairs.Pair.{Pair}
+use Rattle.bson_values.specs.declared.space.Space.{Space}
+use Rattle.bson_values.specs.declared.value.Value.{Value}
+use Rattle.bson_values.specs.declared.value.Value.TheViews.{out-Value}
+use Rattle.bson_values.specs.declared.value.Value.TheOpen.{Value-F}
+use Rattle.doc_model.specs.declared.op.Op.TheVariants as op
+use Rattle.op_msg.specs.declared.message.Message.{Message}
+use Rattle.command_words.specs.declared.command.Command.{Command}
+use Rattle.command_words.specs.declared.command.Command.TheVariants as command
+use Rattle.command_words.specs.declared.word.Word.{Word}
+use Rattle.command_words.specs.declared.word.Word.TheVariants.{Ping, Insert, Find}
+use Rattle.command_words.specs.Body.{word_in, own_in, text_in}
+use Rattle.command_words.specs.Refusal.{field_of}
+
+-- the collection that the command names, in the database of `$db`
+abbrev pub space_in : List (Pair Value) → Space
+space_in body = record { db = text_in (field_of body (codes "$db")); coll = text_in (own_in body) }
+
+-- the document that the value is
+abbrev pub pairs_of : Value-F Value → List (Pair Value)
+pairs_of (Value-F.Doc pairs) = pairs
+pairs_of _ = []
+
+-- the one that stands first in the array that the value is
+abbrev pub first_document : Value-F Value → List (Pair Value)
+first_document (Value-F.Arr (item ∷ items)) = pairs_of (out-Value item)
+first_document _ = []
+
+-- the same of one that may be absent
+abbrev pub document_in : Option Value → List (Pair Value)
+document_in None = []
+document_in (Some it) = first_document (out-Value it)
+
+-- by the command's name
+abbrev pub command_by : Option Word → List (Pair Value) → Command
+command_by (Some Insert) body = command.Insert (op.Insert (space_in body) (document_in (field_of body (codes "documents"))))
+command_by (Some Find) body = command.Find (op.Find (space_in body))
+command_by _ body = command.Ping
+
+-- what a message asks for that is not refused
+abbrev pub command_of : Message → Command
+command_of m = command_by (word_in m.body) m.body

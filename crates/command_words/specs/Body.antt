@@ -37,6 +37,18 @@ abbrev pub own_in : List (Pair Value) → Option Value
 own_in [] = None
 own_in (field ∷ fields) = Some field.value
 
+-- the names of fields that an insert may have
+abbrev pub is_insert_name : List ℕ → Bool
+is_insert_name name = bytes_eq name (codes "insert") || bytes_eq name (codes "$db") || bytes_eq name (codes "documents")
+
+-- and those that a find may have
+abbrev pub is_find_name : List ℕ → Bool
+is_find_name name = bytes_eq name (codes "find") || bytes_eq name (codes "$db") || bytes_eq name (codes "filter")
+
+-- each field has such a name
+abbrev pub has_only : (List ℕ → Bool) → List (Pair Value) → Bool
+has_only test body = list_all (λ (field : Pair Value). test field.name) body
+
 -- a value is there, and passes the test
 abbrev pub is_given : (Value-F Value → Bool) → Option Value → Bool
 is_given test None = false

@@ -5,6 +5,7 @@ mod body;
 mod command;
 mod namespace;
 mod plain;
+mod refusal;
 mod refused;
 mod spelling;
 mod values;

@@ -23,9 +23,14 @@ abbrev pub pairs_of : Value-F Value → List (Pair Value)
 pairs_of (Value-F.Doc pairs) = pairs
 pairs_of _ = []
 
+-- the one that stands first
+abbrev pub first_pairs : List Value → List (Pair Value)
+first_pairs [] = []
+first_pairs (item ∷ items) = pairs_of (out-Value item)
+
 -- the one that stands first in the array that the value is
 abbrev pub first_document : Value-F Value → List (Pair Value)
-first_document (Value-F.Arr (item ∷ items)) = pairs_of (out-Value item)
+first_document (Value-F.Arr items) = first_pairs items
 first_document _ = []
 
 -- the same of one that may be absent
@@ -39,6 +44,10 @@ command_by (Some Insert) body = command.Insert (op.Insert (space_in body) (docum
 command_by (Some Find) body = command.Find (op.Find (space_in body))
 command_by _ body = command.Ping
 
--- what a message asks for that is not refused
+-- what a body means that is not refused
+abbrev pub command_in : List (Pair Value) → Command
+command_in body = command_by (word_in body) body
+
+-- what a message means that is not refused
 abbrev pub command_of : Message → Command
-command_of m = command_by (word_in m.body) m.body
+command_of m = command_in m.body

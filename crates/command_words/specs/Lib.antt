@@ -3,3 +3,4 @@ pub mod Body
 pub mod Plain
 pub mod Refusal
 pub mod Meaning
+pub mod Lent

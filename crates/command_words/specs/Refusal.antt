@@ -59,15 +59,15 @@ rows_of (Some Insert) db body = insert_rows db body
 rows_of (Some Find) db body = find_rows db body
 rows_of _ db body = []
 
--- why a body is refused, where it is
-abbrev pub refusal_in : List (Pair Value) → Option ℕ
-refusal_in body = first_kind (common_rows body ++ rows_of (word_in body) (text_in (field_of body (codes "$db"))) body)
+-- all rows of a body: the first that holds is the reason
+abbrev pub rows_in : List (Pair Value) → List (Bool × ℕ)
+rows_in body = common_rows body ++ rows_of (word_in body) (text_in (field_of body (codes "$db"))) body
 
 -- why a message is refused, where it is
 abbrev pub refusal : Message → Option ℕ
-refusal m = refusal_in m.body
+refusal m = first_kind (rows_in m.body)
 
--- a refusal tells that, and want of memory nothing
+-- a refusal tells that, and want of memory that there is none
 abbrev pub Tells : CommandRefused → Message → Type 0
 Tells (Refused kind) m = refusal m ≡ Some kind
-Tells NoMemory m = Unit {0}
+Tells NoMemory m = refusal m ≡ None

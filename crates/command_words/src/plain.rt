@@ -1,6 +1,7 @@
-ghost use Rattle.std.specs.Prelude.{◌≡◌, true};
+ghost use Rattle.std.specs.Prelude.{◌≡◌, true, false, MatchOption};
 ghost use Rattle.std.specs.List.{list_all};
 ghost use Rattle.bson_values.specs.declared.value.Value.TheViews.{out-Value};
+ghost use Rattle.command_words.specs.Meaning.{pairs_of, first_pairs, first_document};
 ghost use Rattle.command_words.specs.Plain.{is_plain_name, is_plain_value, is_plain_field, can_be_id, has_id_first, is_plain, is_plain_document, is_only_plain, is_one_plain};
 
 use crate::body::has_twice;
@@ -61,30 +62,33 @@ fn is_plain(document: &Document) -> bool
     has_id_first(fields) && are_plain_fields(fields) && !has_twice(fields) && is_short(fields)
 }
 
-fn is_plain_document(value: &Value) -> bool
-    ensures { result ≡ is_plain_document (out-Value value.now) }
+fn plain_document(value: &Value) -> Option<&Document>
+    ensures { MatchOption result (is_plain_document (out-Value value.now) ≡ false)
+        (λ doc. (is_plain_document (out-Value value.now) ≡ true) × (doc.now ≡ pairs_of (out-Value value.now))) }
 {
     match value {
-        Value::Doc(document) => is_plain(document),
-        _ => false,
+        Value::Doc(document) if is_plain(document) => Some(document),
+        _ => None,
     }
 }
 
-fn is_only_plain(items: &[Value]) -> bool
-    ensures { result ≡ is_only_plain items.now }
+fn only_item(items: &[Value]) -> Option<&Document>
+    ensures { MatchOption result (is_only_plain items.now ≡ false)
+        (λ doc. (is_only_plain items.now ≡ true) × (doc.now ≡ first_pairs items.now)) }
 {
     match items {
-        [item] => is_plain_document(item),
-        _ => false,
+        [item] => plain_document(item),
+        _ => None,
     }
 }
 
-/// Whether the value is an array of one such document.
-pub(crate) fn is_one_plain(value: &Value) -> bool
-    ensures { result ≡ is_one_plain (out-Value value.now) }
+/// The document, where the value is an array of one that is stored so far.
+pub(crate) fn only_plain(value: &Value) -> Option<&Document>
+    ensures { MatchOption result (is_one_plain (out-Value value.now) ≡ false)
+        (λ doc. (is_one_plain (out-Value value.now) ≡ true) × (doc.now ≡ first_document (out-Value value.now))) }
 {
     match value {
-        Value::Arr(items) => is_only_plain(items.as_slice()),
-        _ => false,
+        Value::Arr(items) => only_item(items.as_slice()),
+        _ => None,
     }
 }

@@ -1,0 +1,63 @@
+ghost use Rattle.std.specs.Prelude.{◌≡◌, IfOk, OnOk, IfErr};
+ghost use Rattle.command_words.specs.Lent.{command_for};
+ghost use Rattle.command_words.specs.Meaning.{command_of};
+ghost use Rattle.command_words.specs.Refusal.{refusal, Tells};
+
+use crate::refused::CommandRefused;
+use crate::request::Request;
+use bson_values::{NoMemory, Space, Text};
+use doc_model::Op;
+use op_msg::Message;
+use std::alloc::Global;
+
+/// What a message asks for.
+#[derive(Debug, Drop)]
+pub enum Command {
+    Ping,
+    Insert { op: Op },
+    Find { op: Op },
+}
+
+impl Command {
+    /// The command that the message means, with copies of what it names.
+    pub fn read(alloc: Global, message: &Message) -> Result<Command, CommandRefused>
+        ensures accepted { OnOk result (refusal message.now ≡ None) }
+        ensures means { IfOk result (λ command. command ≡ command_of message.now) }
+        ensures refused { IfErr result (λ why. Tells why message.now) }
+    {
+        match Request::of(&message.body) {
+            Ok(asked) => Ok(copied(alloc, asked)?),
+            Err(kind) => Err(CommandRefused::Refused(kind)),
+        }
+    }
+}
+
+fn space(alloc: Global, db: &str, coll: &str) -> Result<Space, NoMemory>
+    ensures { IfOk result (λ space. space ≡ record { db = db.now; coll = coll.now }) }
+{
+    let db = Text::of(alloc, db)?;
+    let coll = Text::of(alloc, coll)?;
+    Ok(Space { db, coll })
+}
+
+/// The command that a request means, with copies of what is lent.
+fn copied(alloc: Global, asked: Request<'_>) -> Result<Command, NoMemory>
+    ensures { IfOk result (λ command. command ≡ command_for asked.entry) }
+{
+    match asked {
+        Request::Ping => Ok(Command::Ping),
+        Request::Insert { db, coll, doc } => {
+            let space = space(alloc, db, coll)?;
+            let doc = doc.copy(alloc)?;
+            Ok(Command::Insert {
+                op: Op::Insert { space, doc },
+            })
+        }
+        Request::Find { db, coll } => {
+            let space = space(alloc, db, coll)?;
+            Ok(Command::Find {
+                op: Op::Find { space },
+            })
+        }
+    }
+}

@@ -1,0 +1,15 @@
+//! Service: what a message asks for, or why it is refused.
+#![tactic(auto)]
+
+mod body;
+mod command;
+mod namespace;
+mod plain;
+mod refused;
+mod request;
+mod spelling;
+mod values;
+mod word;
+
+pub use command::Command;
+pub use refused::CommandRefused;

@@ -1,0 +1,7 @@
+/// The commands, as the first name of a body tells them.
+#[derive(Clone, Copy, Debug)]
+pub(crate) enum Word {
+    Ping,
+    Insert,
+    Find,
+}

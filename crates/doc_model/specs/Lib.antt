@@ -1,0 +1,4 @@
+pub mod Store
+pub mod Step
+pub mod Run
+pub mod Laws

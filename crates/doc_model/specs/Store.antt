@@ -1,0 +1,60 @@
+-- A store of documents.
+use Rattle.std.specs.Prelude.{ℕ, Bool, false, ◌||◌, if◌then◌else◌, List, [], ◌∷◌, ◌++◌, Option, None, Some}
+use Rattle.std.specs.Ordering.{int_eq}
+use Rattle.std.specs.Str.{bytes_eq}
+use Rattle.bson_values.specs.declared.pairs.Pair.{Pair}
+use Rattle.bson_values.specs.declared.space.Space.{Space}
+use Rattle.bson_values.specs.declared.value.Value.{Value}
+use Rattle.bson_values.specs.declared.value.Value.TheViews.{out-Value}
+use Rattle.bson_values.specs.declared.value.Value.TheOpen.{Value-F}
+use Rattle.bson_values.specs.Names.{same_space}
+
+-- the documents of one space, in the order of their insertion
+pub record Collection : Type 0 where
+  pub space : Space
+  pub docs : List (List (Pair Value))
+
+-- the collections in the order of their creation, and the number that is given next
+pub record Store : Type 0 where
+  pub collections : List Collection
+  pub next : ℕ
+
+-- the store before any operation
+abbrev pub empty_store : Store
+empty_store = record { collections = []; next = 1 }
+
+-- the values are one `_id`: two int32s of one number, or two strings of the same bytes
+abbrev pub same_key : Value-F Value → Value-F Value → Bool
+same_key (Value-F.Int one) (Value-F.Int other) = int_eq one other
+same_key (Value-F.Str one) (Value-F.Str other) = bytes_eq one other
+same_key _ _ = false
+
+-- the documents have the same `_id`, which is the first value of each
+abbrev pub same_id : List (Pair Value) → List (Pair Value) → Bool
+same_id (one ∷ ones) (other ∷ others) = same_key (out-Value one.value) (out-Value other.value)
+same_id _ _ = false
+
+-- one of the documents has the `_id` of this one
+abbrev pub has_id : List (Pair Value) → List (List (Pair Value)) → Bool
+has_id doc [] = false
+has_id doc (other ∷ others) = same_id doc other || has_id doc others
+
+-- the collection of that space
+abbrev pub collection_of : Space → List Collection → Option Collection
+collection_of space [] = None
+collection_of space (c ∷ cs) = if same_space space c.space then Some c else collection_of space cs
+
+-- the documents of a collection, none where it is absent
+abbrev pub docs_in : Option Collection → List (List (Pair Value))
+docs_in None = []
+docs_in (Some c) = c.docs
+
+-- the documents of that space
+abbrev pub docs_of : Space → Store → List (List (Pair Value))
+docs_of space s = docs_in (collection_of space s.collections)
+
+-- the collections, with the document last in the one of that space
+abbrev pub with_last : Space → List (Pair Value) → List Collection → List Collection
+with_last space doc [] = []
+with_last space doc (c ∷ cs) =
+    if same_space space c.space then record c { docs = c.docs ++ doc ∷ [] } ∷ cs else c ∷ with_last space doc cs

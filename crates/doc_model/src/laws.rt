@@ -1,0 +1,28 @@
+ghost use Rattle.std.specs.Prelude.{◌≡◌, ◌++◌, [], List};
+ghost use Rattle.doc_model.specs.Laws.{RefusalsChangeNothing, InsertedIsFound, OthersAreLeft, IdsStayOwn};
+ghost use Rattle.doc_model.specs.Run.{Done, run, whos};
+ghost use Rattle.doc_model.specs.Store.{Store};
+
+pub fn a_refusal_changes_nothing()
+    ensures { RefusalsChangeNothing }
+{}
+
+pub fn what_was_inserted_is_found()
+    ensures { InsertedIsFound }
+{}
+
+pub fn an_insert_leaves_other_spaces()
+    ensures { OthersAreLeft }
+{}
+
+/// Two documents of one space never have the same `_id`.
+pub fn ids_stay_distinct()
+    ensures { IdsStayOwn }
+{}
+
+/// A run goes on where another ended.
+pub fn runs_join()
+    ensures none { (s : Store) → run s [] s }
+    ensures append { (xs ys : List Done) (s m t : Store) → run s xs m → run m ys t → run s (xs ++ ys) t }
+    ensures whos { (xs ys : List Done) → whos (xs ++ ys) ≡ whos xs ++ whos ys }
+{}

@@ -1,0 +1,23 @@
+use bson_values::{Document, List, Space};
+use case_tables::Kind;
+
+/// What is asked of the store. It carries all that its meaning depends on, beside the store, the asker and the moment.
+#[derive(Debug, Drop)]
+pub enum Op {
+    /// To add a document to a collection, which is created where it is absent.
+    Insert { space: Space, doc: Document },
+    /// To show the documents of a collection.
+    Find { space: Space },
+}
+
+/// What the store replies.
+#[derive(Debug, Drop)]
+pub enum OpReply {
+    Inserted,
+    /// The documents that were asked for, in the order of their insertion.
+    Selected(List<Document>),
+    /// Nothing was done, for this reason.
+    Refused(Kind),
+    /// Nothing was done, for want of memory.
+    NoMemory,
+}

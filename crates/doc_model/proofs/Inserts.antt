@@ -10,7 +10,8 @@ use Rattle.bson_values.specs.Names.{same_space}
 use Rattle.case_tables.specs.declared.kinds.TheConstants.{DUPLICATE_KEY, TOO_MANY_COLLECTIONS, NUMBERS_SPENT}
 use Rattle.doc_model.specs.declared.op.OpReply.{OpReply}
 use Rattle.doc_model.specs.declared.op.OpReply.TheVariants.{Inserted, Refused}
-use Rattle.doc_model.specs.Store.{Store, Collection, collection_of, docs_in, docs_of, has_id, with_last}
+use Rattle.doc_model.specs.declared.collection.Collection.{Collection}
+use Rattle.doc_model.specs.Store.{Store, collection_of, docs_in, docs_of, has_id, with_last}
 use Rattle.doc_model.specs.Step.{Meant, MOST_COLLECTIONS, are_spent, refused, inserted}
 
 abbrev Doc : Type 0

@@ -9,7 +9,8 @@ use Rattle.doc_model.specs.declared.op.Op.{Op}
 use Rattle.doc_model.specs.declared.op.Op.TheVariants.{Insert, Find}
 use Rattle.doc_model.specs.declared.op.OpReply.{OpReply}
 use Rattle.doc_model.specs.declared.op.OpReply.TheVariants.{Inserted, Selected, Refused, NoMemory}
-use Rattle.doc_model.specs.Store.{Store, Collection, collection_of, docs_of, has_id, with_last}
+use Rattle.doc_model.specs.declared.collection.Collection.{Collection}
+use Rattle.doc_model.specs.Store.{Store, collection_of, docs_of, has_id, with_last}
 
 -- how many collections there may be
 abbrev pub MOST_COLLECTIONS : ℕ

@@ -1,5 +1,6 @@
 -- A store of documents.
 use Rattle.std.specs.Prelude.{ℕ, Bool, false, ◌||◌, if◌then◌else◌, List, [], ◌∷◌, ◌++◌, Option, None, Some}
+use Rattle.std.specs.List.{list_any}
 use Rattle.std.specs.Ordering.{int_eq}
 use Rattle.std.specs.Str.{bytes_eq}
 use Rattle.bson_values.specs.declared.pairs.Pair.{Pair}
@@ -8,11 +9,7 @@ use Rattle.bson_values.specs.declared.value.Value.{Value}
 use Rattle.bson_values.specs.declared.value.Value.TheViews.{out-Value}
 use Rattle.bson_values.specs.declared.value.Value.TheOpen.{Value-F}
 use Rattle.bson_values.specs.Names.{same_space}
-
--- the documents of one space, in the order of their insertion
-pub record Collection : Type 0 where
-  pub space : Space
-  pub docs : List (List (Pair Value))
+use Rattle.doc_model.specs.declared.collection.Collection.{Collection}
 
 -- the collections in the order of their creation, and the number that is given next
 pub record Store : Type 0 where
@@ -36,8 +33,7 @@ same_id _ _ = false
 
 -- one of the documents has the `_id` of this one
 abbrev pub has_id : List (Pair Value) → List (List (Pair Value)) → Bool
-has_id doc [] = false
-has_id doc (other ∷ others) = same_id doc other || has_id doc others
+has_id doc others = list_any (same_id doc) others
 
 -- the collection of that space
 abbrev pub collection_of : Space → List Collection → Option Collection

@@ -4,3 +4,4 @@ pub mod Conversation
 pub mod Whole
 pub mod Answering
 pub mod Replies
+pub mod Keeping

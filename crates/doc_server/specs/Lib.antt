@@ -3,3 +3,4 @@ pub mod Script
 pub mod Talk
 pub mod Steps
 pub mod Program
+pub mod Kept

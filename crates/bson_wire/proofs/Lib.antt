@@ -14,3 +14,4 @@ pub mod Helds
 pub mod Sizes
 pub mod Written
 pub mod Lengths
+pub mod Measured

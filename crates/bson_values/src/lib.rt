@@ -4,6 +4,7 @@
 mod bytes;
 mod copying;
 mod list;
+mod measures;
 mod memory;
 mod pairs;
 mod pieces;

@@ -96,3 +96,47 @@ fn a_space_is_told_apart_by_both_names(rt: HostRuntime) -> Result<(), Fail> {
     assert!(rt; !space.is(&turned));
     Ok(())
 }
+
+/// A document with one field `a`.
+fn holding(alloc: Global, value: Value) -> Result<Document, NoMemory> {
+    let mut document = Document::new(alloc);
+    push(&mut document, text(alloc, "a")?, value)?;
+    Ok(document)
+}
+
+#[test]
+fn sizes_are_those_of_bson(rt: HostRuntime) -> Result<(), Fail> {
+    let mut hello = Document::new(rt.alloc());
+    assert_eq!(rt; hello.size(), 5);
+    let world = Value::Str(text(rt.alloc(), "world")?);
+    push(&mut hello, text(rt.alloc(), "hello")?, world)?;
+    assert_eq!(rt; hello.size(), 22);
+    let bytes = Bytes::of(rt.alloc(), &[1, 2, 3])?;
+    let mut binary = Document::new(rt.alloc());
+    push(&mut binary, text(rt.alloc(), "_id")?, Value::Int(1))?;
+    push(
+        &mut binary,
+        text(rt.alloc(), "b")?,
+        Value::Bin(Binary { subtype: 0, bytes }),
+    )?;
+    assert_eq!(rt; binary.size(), 25);
+    let mut items = List::new(rt.alloc());
+    for _ in 0..11 {
+        items.push(Value::Null).map_err(|_| NoMemory)?;
+    }
+    // Ten names of one digit and one of two.
+    assert_eq!(rt; holding(rt.alloc(), Value::Arr(items))?.size(), 47);
+    assert_eq!(rt; sample(rt.alloc())?.size(), 117);
+    Ok(())
+}
+
+#[test]
+fn depths_count_documents_and_arrays(rt: HostRuntime) -> Result<(), Fail> {
+    let empty = Document::new(rt.alloc());
+    assert_eq!(rt; empty.depth(), 1);
+    let mut items = List::new(rt.alloc());
+    items.push(Value::Doc(empty)).map_err(|_| NoMemory)?;
+    assert_eq!(rt; holding(rt.alloc(), Value::Arr(items))?.depth(), 3);
+    assert_eq!(rt; holding(rt.alloc(), Value::Bool(true))?.depth(), 1);
+    Ok(())
+}

@@ -15,3 +15,4 @@ pub mod Sizes
 pub mod Written
 pub mod Lengths
 pub mod Places
+pub mod Measured

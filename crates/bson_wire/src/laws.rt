@@ -1,4 +1,5 @@
-ghost use Rattle.std.specs.Prelude.{◌≡◌, ◌++◌, ℕ, List};
+ghost use Rattle.std.specs.Prelude.{◌≡◌, ◌++◌, ℕ, List, length};
+ghost use Rattle.bson_values.specs.Measures.{size};
 ghost use Rattle.bson_values.specs.declared.pairs.Pair.{Pair};
 ghost use Rattle.bson_values.specs.declared.value.Value.{Value};
 ghost use Rattle.bson_wire.specs.Grammar.{spells};
@@ -14,4 +15,9 @@ pub fn no_spelling_begins_another()
 /// What `write` appends is in the grammar, so `read` gives the document back, whatever follows.
 pub fn what_was_written_is_read_again()
     ensures { (doc : List (Pair Value)) → IsSpellable doc → spells (spell doc) doc }
+{}
+
+/// The size of a document is the length of its spelling.
+pub fn a_document_is_as_long_as_its_size()
+    ensures { (doc : List (Pair Value)) → size doc ≡ length (spell doc) }
 {}

@@ -7,7 +7,9 @@ mod refused;
 mod scalars;
 mod writer;
 
-pub use laws::{no_spelling_begins_another, what_was_written_is_read_again};
+pub use laws::{
+    a_document_is_as_long_as_its_size, no_spelling_begins_another, what_was_written_is_read_again,
+};
 pub use reader::{Front, read};
 pub use refused::ReadRefused;
 pub use writer::write;

@@ -1,0 +1,88 @@
+-- The size of a document is the length of its spelling.
+use Rattle.std.proofs.Common.{◌≡◌, ℕ, ◌+◌, List, [], ◌∷◌, length, map, refl, sym, ap, subst, ◌∙◌, arith}
+use Rattle.std.specs.Fmt.{decimal}
+use Rattle.std.specs.List.{flat_map}
+use Rattle.std.proofs.lemmas.List.{length-append}
+use Rattle.std.proofs.lemmas.List.Concat.{flat_map-cons}
+use Rattle.bson_values.specs.Measures.{fields_size, items_size, size_in, value_size, size}
+use Rattle.bson_values.specs.declared.pairs.Pair.{Pair}
+use Rattle.bson_values.specs.declared.value.Value.{Value, map-Value}
+use Rattle.bson_values.specs.declared.value.Value.TheVariants as value
+use Rattle.bson_values.specs.declared.value.Value.TheOpen.{Value-F}
+use Rattle.bson_values.specs.declared.value.Value.TheFolds.{fold-roll-Value, ind-Value}
+use Rattle.bson_wire.specs.Spelling.{cstring, element_of, items_from, held_in, held, spell}
+use Rattle.bson_wire.proofs.Helds.{doc-held}
+use Rattle.bson_wire.proofs.Sizes.{length-string, length-binary, length-enclosed, length-element_of}
+
+abbrev Spelled : Type 0
+Spelled = ℕ × List ℕ
+
+-- the size of a value is the length of what it holds
+abbrev IsMeasured : Value → Type 0
+IsMeasured it = value_size it ≡ length (held it).1
+
+abbrev Known : Type 0
+Known = (it : Value) × IsMeasured it
+
+abbrev value_of : Known → Value
+value_of known = known.0
+
+abbrev pair_of : Pair Known → Pair Value
+pair_of pair = record { name = pair.name; value = pair.value.0 }
+
+abbrev sized : Pair Value → Pair ℕ
+sized pair = record { name = pair.name; value = value_size pair.value }
+
+abbrev spelled : Pair Value → Pair Spelled
+spelled pair = record { name = pair.name; value = held pair.value }
+
+abbrev joined : Pair Spelled → List ℕ
+joined pair = element_of pair.name pair.value
+
+fields_measured : (pairs : List (Pair Known)) → fields_size (map sized (map pair_of pairs)) ≡ length (flat_map joined (map spelled (map pair_of pairs)))
+fields_measured [] = refl
+fields_measured (pair ∷ pairs) =
+    let first = spelled (pair_of pair) in
+    let rest = map spelled (map pair_of pairs) in
+    omega (
+      arith,
+      pair.value.1,
+      fields_measured pairs,
+      ap length (flat_map-cons joined first rest),
+      length-append (joined first) (flat_map joined rest),
+      length-element_of pair.name (held pair.value.0),
+    )
+
+items_measured : (place : ℕ) (items : List Known) → items_size place (map value_size (map value_of items)) ≡ length (items_from place (map held (map value_of items)))
+items_measured place [] = refl
+items_measured place (item ∷ items) =
+    let rest = items_from (place + 1) (map held (map value_of items)) in
+    omega (arith, item.1, items_measured (place + 1) items, length-append (element_of (decimal place) (held item.0)) rest, length-element_of (decimal place) (held item.0))
+
+-- ---- layer by layer
+
+-- what is to be shown of a layer
+abbrev Agree : Value-F Value → Type 0
+Agree layer = size_in (map-Value Value ℕ value_size layer) ≡ length (held_in (map-Value Value Spelled held layer)).1
+
+layer_measured : (layer : Value-F Known) → Agree (map-Value Known Value value_of layer)
+layer_measured (Value-F.Str text) = sym (length-string text)
+layer_measured (Value-F.Doc pairs) = ap (λ (n : ℕ). n + 5) (fields_measured pairs) ∙ sym (length-enclosed (flat_map joined (map spelled (map pair_of pairs))))
+layer_measured (Value-F.Arr items) = ap (λ (n : ℕ). n + 5) (items_measured 0 items) ∙ sym (length-enclosed (items_from 0 (map held (map value_of items))))
+layer_measured (Value-F.Bin it) = sym (length-binary it.subtype it.bytes)
+layer_measured (Value-F.Id id) = refl
+layer_measured (Value-F.Bool truth) = refl
+layer_measured (Value-F.Date moment) = refl
+layer_measured Value-F.Null = refl
+layer_measured (Value-F.Regex regex) =
+    omega (arith, length-append (cstring regex.pattern) (cstring regex.options), length-append regex.pattern (0 ∷ []), length-append regex.options (0 ∷ []))
+layer_measured (Value-F.Int number) = refl
+layer_measured (Value-F.Stamp stamp) = refl
+layer_measured (Value-F.Long number) = refl
+
+pub value_measured : (it : Value) → IsMeasured it
+value_measured = ind-Value IsMeasured (λ layer known is.
+    fold-roll-Value ℕ size_in layer ∙ subst Agree is (layer_measured known) ∙ sym (ap (λ (h : Spelled). length h.1) (fold-roll-Value Spelled held_in layer)))
+
+pub measured : (doc : List (Pair Value)) → size doc ≡ length (spell doc)
+measured doc = value_measured (value.Doc doc) ∙ ap length (doc-held (value.Doc doc) doc refl)

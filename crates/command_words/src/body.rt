@@ -75,7 +75,9 @@ fn is_find_name(name: &str) -> bool
 pub(crate) fn are_of_insert(fields: &[Pair<Value>]) -> bool
     ensures { result ≡ has_only is_insert_name fields.now }
 {
-    fields.iter().all(|field| is_insert_name(field.name.as_str()))
+    fields
+        .iter()
+        .all(|field| is_insert_name(field.name.as_str()))
 }
 
 /// Whether a find may have all of the fields.

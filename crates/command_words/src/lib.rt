@@ -13,3 +13,6 @@ mod word;
 
 pub use command::Command;
 pub use refused::CommandRefused;
+
+#[cfg(test)]
+mod tests;

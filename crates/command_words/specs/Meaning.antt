@@ -1,6 +1,7 @@
 -- What a message asks for that is not refused.
-use Rattle.std.specs.Prelude.{ℕ, List, [], ◌∷◌, Option, None, Some, codes}
+use Rattle.std.specs.Prelude.{ℕ, ◌≡◌, true, List, [], ◌∷◌, Option, None, Some, codes}
 use Rattle.bson_values.specs.declared.pairs.Pair.{Pair}
+use Rattle.bson_values.specs.declared.space.Space.{Space}
 use Rattle.bson_values.specs.declared.value.Value.{Value}
 use Rattle.bson_values.specs.declared.value.Value.TheViews.{out-Value}
 use Rattle.bson_values.specs.declared.value.Value.TheOpen.{Value-F}
@@ -11,6 +12,7 @@ use Rattle.command_words.specs.declared.command.Command.TheVariants as command
 use Rattle.command_words.specs.declared.word.Word.{Word}
 use Rattle.command_words.specs.declared.word.Word.TheVariants.{Ping, Insert, Find}
 use Rattle.command_words.specs.Body.{word_in, own_in, text_in}
+use Rattle.command_words.specs.Namespace.{is_database_name, is_collection_name}
 use Rattle.command_words.specs.Refusal.{field_of}
 
 -- the document that the value is
@@ -54,3 +56,15 @@ command_in body = command_by (word_in body) (text_in (field_of body (codes "$db"
 -- what a message means that is not refused
 abbrev pub command_of : Message → Command
 command_of m = command_in m.body
+
+-- the names of its space are such as a database and a collection may have
+abbrev pub IsNamed : Space → Type 0
+IsNamed space = (is_database_name space.db ≡ true) × (is_collection_name space.db space.coll ≡ true)
+
+-- the spaces of its operations are named so
+abbrev pub AreNamed : Command → Type 0
+AreNamed command.Ping = Unit {0}
+AreNamed (command.Insert (op.Insert space doc)) = IsNamed space
+AreNamed (command.Insert (op.Find space)) = IsNamed space
+AreNamed (command.Find (op.Insert space doc)) = IsNamed space
+AreNamed (command.Find (op.Find space)) = IsNamed space

@@ -1,6 +1,6 @@
 ghost use Rattle.std.specs.Prelude.{◌≡◌, IfOk, OnOk, IfErr};
 ghost use Rattle.command_words.specs.Lent.{command_for};
-ghost use Rattle.command_words.specs.Meaning.{command_of};
+ghost use Rattle.command_words.specs.Meaning.{command_of, AreNamed};
 ghost use Rattle.command_words.specs.Refusal.{refusal, Tells};
 
 use crate::refused::CommandRefused;
@@ -24,6 +24,8 @@ impl Command {
         ensures accepted { OnOk result (refusal message.now ≡ None) }
         ensures means { IfOk result (λ command. command ≡ command_of message.now) }
         ensures refused { IfErr result (λ why. Tells why message.now) }
+        // No operation is on a space whose names none has.
+        ensures named { IfOk result AreNamed }
     {
         match Request::of(&message.body) {
             Ok(asked) => Ok(copied(alloc, asked)?),

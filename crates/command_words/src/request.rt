@@ -57,6 +57,7 @@ impl<'a> Request<'a> {
 }
 
 fn insert<'a>(db: &'a str, body: &'a Document) -> Result<Request<'a>, Kind>
+    requires { is_database_name db.now ≡ true }
     ensures { Follows (insert_rows db.now body.now) (insert_in db.now body.now) result }
 {
     let Some(Value::Str(coll)) = own_in(body.as_slice()) else {
@@ -82,6 +83,7 @@ fn insert<'a>(db: &'a str, body: &'a Document) -> Result<Request<'a>, Kind>
 }
 
 fn find<'a>(db: &'a str, body: &'a Document) -> Result<Request<'a>, Kind>
+    requires { is_database_name db.now ≡ true }
     ensures { Follows (find_rows db.now body.now) (find_in db.now body.now) result }
 {
     let Some(Value::Str(coll)) = own_in(body.as_slice()) else {

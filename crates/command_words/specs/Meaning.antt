@@ -10,7 +10,7 @@ use Rattle.op_msg.specs.declared.message.Message.{Message}
 use Rattle.command_words.specs.declared.command.Command.{Command}
 use Rattle.command_words.specs.declared.command.Command.TheVariants as command
 use Rattle.command_words.specs.declared.word.Word.{Word}
-use Rattle.command_words.specs.declared.word.Word.TheVariants.{Ping, Insert, Find}
+use Rattle.command_words.specs.declared.word.Word.TheVariants.{Insert, Find}
 use Rattle.command_words.specs.Body.{word_in, own_in, text_in}
 use Rattle.command_words.specs.Namespace.{is_database_name, is_collection_name}
 use Rattle.command_words.specs.Refusal.{field_of}

@@ -8,7 +8,7 @@ use Rattle.op_msg.specs.declared.message.Message.{Message}
 use Rattle.command_words.specs.declared.refused.CommandRefused.{CommandRefused}
 use Rattle.command_words.specs.declared.refused.CommandRefused.TheVariants.{Refused, NoMemory}
 use Rattle.command_words.specs.declared.word.Word.{Word}
-use Rattle.command_words.specs.declared.word.Word.TheVariants.{Ping, Insert, Find}
+use Rattle.command_words.specs.declared.word.Word.TheVariants.{Insert, Find}
 use Rattle.command_words.specs.Namespace.{is_database_name, is_collection_name}
 use Rattle.command_words.specs.Body.{word_in, own_in, has_twice, is_given, may_be, is_text, is_document, is_empty, are_documents, text_in, is_insert_name, is_find_name, has_only}
 use Rattle.command_words.specs.Plain.{is_one_plain}
@@ -22,7 +22,7 @@ first_kind (row ∷ rows) = if row.0 then Some row.1 else first_kind rows
 abbrev pub field_of : List (Pair Value) → List ℕ → Option Value
 field_of body name = first_of name body
 
--- why any command is refused
+-- why any command is refused: nothing further is looked at for a ping
 abbrev pub common_rows : List (Pair Value) → List (Bool × ℕ)
 common_rows body =
     (is_none (word_in body), NO_SUCH_COMMAND)

@@ -25,7 +25,7 @@ fn has_name(name: &str, fields: &[Pair<Value>]) -> bool
     fields.iter().any(|field| field.name.as_str() == name)
 }
 
-/// Whether two of the fields have one name. The time grows with the square of their number.
+/// Whether two of the fields have one name. It takes no memory, and time that grows with the square of their number.
 pub(crate) fn has_twice(fields: &[Pair<Value>]) -> bool
     ensures { result ≡ has_twice fields.now }
 {

@@ -1,4 +1,6 @@
+ghost use Rattle.std.specs.Prelude.{◌≡◌, true};
 ghost use Rattle.command_words.specs.Lent.{Follows};
+ghost use Rattle.command_words.specs.Namespace.{is_database_name};
 ghost use Rattle.command_words.specs.Meaning.{insert_in, find_in, command_in};
 ghost use Rattle.command_words.specs.Refusal.{insert_rows, find_rows, rows_in};
 

@@ -1,0 +1,5 @@
+pub mod Layers
+pub mod Ends
+pub mod Depths
+pub mod Total
+pub mod Places

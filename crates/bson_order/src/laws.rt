@@ -1,0 +1,30 @@
+ghost use Rattle.std.specs.Prelude.{◌≡◌, ◌↔◌};
+ghost use Rattle.bson_values.specs.declared.value.Value.{Value};
+ghost use Rattle.bson_order.specs.Choice.{ExactlyOne};
+ghost use Rattle.bson_order.specs.Order.{Below, Same};
+
+/// Any two values stand in exactly one of three ways.
+pub fn one_is_below_or_same_or_above()
+    ensures { (a b : Value) → ExactlyOne (Below a b) (Same a b) (Below b a) }
+{}
+
+pub fn below_is_a_strict_order()
+    ensures irreflexive { (a : Value) → Below a a → ⊥ }
+    ensures transitive { (a b c : Value) → Below a b → Below b c → Below a c }
+{}
+
+pub fn same_is_an_equivalence()
+    ensures reflexive { (a : Value) → Same a a }
+    ensures symmetric { (a b : Value) → Same a b → Same b a }
+    ensures transitive { (a b c : Value) → Same a b → Same b c → Same a c }
+{}
+
+pub fn same_is_neither_below_the_other()
+    ensures { (a b : Value) → Same a b ↔ ((Below a b → ⊥) × (Below b a → ⊥)) }
+{}
+
+/// What is the same stands at one place among all values.
+pub fn same_values_stand_at_one_place()
+    ensures above { (a b c : Value) → Same a b → Below a c ↔ Below b c }
+    ensures below { (a b c : Value) → Same a b → Below c a ↔ Below c b }
+{}

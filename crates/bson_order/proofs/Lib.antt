@@ -3,3 +3,4 @@ pub mod Ends
 pub mod Depths
 pub mod Total
 pub mod Places
+pub mod Helds

@@ -1,9 +1,11 @@
 //! Values: their order, and the keys by which rows are told apart.
 #![tactic(auto)]
 
+mod key;
 mod laws;
 mod order;
 
+pub use key::id_key;
 pub use laws::{
     below_is_a_strict_order, one_is_below_or_same_or_above, same_is_an_equivalence,
     same_is_neither_below_the_other, same_values_stand_at_one_place,

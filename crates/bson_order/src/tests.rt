@@ -1,6 +1,8 @@
-//! Pairs of values, each with how the first stands beside the second.
+//! Pairs of values, each with how the first stands beside the second, and values with their keys.
 
-use crate::{compare, same};
+ghost use Rattle.std.specs.Prelude.{◌<◌};
+
+use crate::{compare, id_key, same};
 use bson_values::{Binary, Bytes, Document, List, NoMemory, Regex, Text, Value};
 use std::alloc::Global;
 use std::cmp::Ordering;
@@ -109,6 +111,39 @@ const ROWS: [(Sample, Sample, Ordering); 52] = [
     (Arr(&[Arr(&[]), Null]), Arr(&[Arr(&[Null])]), Less),
 ];
 
+/// Each with the type byte, lengths of eight bytes, and each int as a long.
+const KEYS: [(Sample, &[u8]); 13] = [
+    (Str("ab"), &[0x02, 3, 0, 0, 0, 0, 0, 0, 0, 97, 98, 0]),
+    (
+        Doc(&[("a", Int(1))]),
+        &[
+            0x03, 20, 0, 0, 0, 0, 0, 0, 0, 0x12, 97, 0, 1, 0, 0, 0, 0, 0, 0, 0, 0,
+        ],
+    ),
+    (
+        Arr(&[Null, Bool(true)]),
+        &[
+            0x04, 16, 0, 0, 0, 0, 0, 0, 0, 0x0a, 48, 0, 0x08, 49, 0, 1, 0,
+        ],
+    ),
+    (
+        Bin(5, &[1, 255]),
+        &[0x05, 2, 0, 0, 0, 0, 0, 0, 0, 5, 1, 255],
+    ),
+    (
+        Id([1, 2, 3, 4, 5, 6, 7, 8, 9, 10, 11, 12]),
+        &[0x07, 1, 2, 3, 4, 5, 6, 7, 8, 9, 10, 11, 12],
+    ),
+    (Bool(true), &[0x08, 1]),
+    (Bool(false), &[0x08, 0]),
+    (Date(-2), &[0x09, 254, 255, 255, 255, 255, 255, 255, 255]),
+    (Null, &[0x0a]),
+    (Pattern("^x", "i"), &[0x0b, 94, 120, 0, 105, 0]),
+    (Int(-1), &[0x12, 255, 255, 255, 255, 255, 255, 255, 255]),
+    (Stamp(4_294_967_299), &[0x11, 3, 0, 0, 0, 1, 0, 0, 0]),
+    (Long(4), &[0x12, 4, 0, 0, 0, 0, 0, 0, 0]),
+];
+
 #[cycle(sample)]
 fn value(alloc: Global, sample: &Sample) -> Result<Value, NoMemory> {
     Ok(match sample {
@@ -169,5 +204,111 @@ fn values_stand_as_the_table_says(rt: HostRuntime) -> Result<(), Fail> {
             "row {place}"
         );
     }
+    Ok(())
+}
+
+#[test]
+fn a_key_with_ample_memory_has_these_bytes(rt: HostRuntime) -> Result<(), Fail> {
+    for (place, (sample, bytes)) in KEYS.iter().enumerate() {
+        let key = id_key(rt.alloc(), &value(rt.alloc(), sample)?)?;
+        assert_eq!(rt; key.as_slice(), *bytes, "row {place}");
+    }
+    Ok(())
+}
+
+/// Numbers that follow from a first one (Knuth's MMIX generator).
+#[derive(Drop)]
+struct Numbers(u64);
+
+impl Numbers {
+    fn below(&mut self, bound: u64) -> u64
+        requires { 0 < bound }
+    {
+        self.0 = self.0.wrapping_mul(6_364_136_223_846_793_005);
+        self.0 = self.0.wrapping_add(1_442_695_040_888_963_407);
+        (self.0 >> 33) % bound
+    }
+}
+
+/// A value from few, so that some of them are the same.
+fn plain(alloc: Global, numbers: &mut Numbers) -> Result<Value, NoMemory> {
+    match numbers.below(5) {
+        0 => Ok(Value::Int(1)),
+        1 => Ok(Value::Long(1)),
+        2 => Ok(Value::Str(Text::of(alloc, "1")?)),
+        3 => Ok(Value::Bool(false)),
+        _ => Ok(Value::Null),
+    }
+}
+
+fn random(alloc: Global, numbers: &mut Numbers) -> Result<Value, NoMemory> {
+    let first = plain(alloc, numbers)?;
+    match numbers.below(3) {
+        0 => Ok(first),
+        1 => {
+            let mut items = List::new(alloc);
+            items.push(first).map_err(|_| NoMemory)?;
+            Ok(Value::Arr(items))
+        }
+        _ => {
+            let mut document = Document::new(alloc);
+            document
+                .push(Text::of(alloc, "a")?, first)
+                .map_err(|_| NoMemory)?;
+            let second = plain(alloc, numbers)?;
+            document
+                .push(Text::of(alloc, "b")?, second)
+                .map_err(|_| NoMemory)?;
+            Ok(Value::Doc(document))
+        }
+    }
+}
+
+fn randoms(alloc: Global) -> Result<List<Value>, NoMemory> {
+    let mut numbers = Numbers(2026);
+    let mut values = List::new(alloc);
+    for _ in 0..12 {
+        let value = random(alloc, &mut numbers)?;
+        values.push(value).map_err(|_| NoMemory)?;
+    }
+    Ok(values)
+}
+
+#[test]
+fn random_values_are_in_an_order(rt: HostRuntime) -> Result<(), Fail> {
+    let values = randoms(rt.alloc())?;
+    for a in values.as_slice() {
+        for b in values.as_slice() {
+            let stands = compare(a, b);
+            assert!(rt; compare(b, a) == stands.reverse(), "turned");
+            for c in values.as_slice() {
+                assert!(rt;
+                    stands != compare(b, c) || compare(a, c) == stands,
+                    "not transitive"
+                );
+            }
+        }
+    }
+    Ok(())
+}
+
+#[test]
+fn keys_of_random_values_are_equal_where_they_are_the_same(rt: HostRuntime) -> Result<(), Fail> {
+    let values = randoms(rt.alloc())?;
+    let mut pairs = 0u32;
+    for a in values.as_slice() {
+        for b in values.as_slice() {
+            let one = id_key(rt.alloc(), a)?;
+            let other = id_key(rt.alloc(), b)?;
+            assert!(rt;
+                (one.as_slice() == other.as_slice()) == same(a, b),
+                "keys disagree"
+            );
+            if same(a, b) {
+                pairs = pairs.saturating_add(1);
+            }
+        }
+    }
+    assert!(rt; 12 < pairs && pairs < 144, "{pairs} pairs are the same");
     Ok(())
 }

@@ -12,7 +12,7 @@ use Rattle.bson_values.specs.declared.value.Value.TheFolds.{fold-Value, fold_out
 use Rattle.bson_order.specs.Order.{rank_of, bytes_cmp, pair_cmp, layer_cmp, compared}
 use Rattle.bson_order.proofs.Layers.{compared_is}
 
-abbrev most : List ℕ → ℕ
+abbrev pub most : List ℕ → ℕ
 most [] = 0
 most (n ∷ ns) = max n (most ns)
 
@@ -33,8 +33,8 @@ pub depth_is : (it : Value) → depth it ≡ layer_depth (out-Value it)
 depth_is = fold_out-Value ℕ depth_in
 
 -- a pair with the depth of its value
-abbrev along : Pair Value → Pair ℕ
-along pair = record { name = pair.name; value = depth pair.value }
+abbrev pub with_depth : Pair Value → Pair ℕ
+with_depth pair = record { name = pair.name; value = depth pair.value }
 
 -- ---- so many levels
 
@@ -46,7 +46,7 @@ within (suc levels) one other = layer_cmp rank_of (within levels) (out-Value one
 abbrev Agrees : ℕ → Type 0
 Agrees levels = (one : Value) → depth one < levels → (other : Value) → compared one other ≡ within levels one other
 
-pairs_agree : (levels : ℕ) → Agrees levels → (pairs others : List (Pair Value)) → most (map (λ (pair : Pair ℕ). pair.value) (map along pairs)) < levels
+pairs_agree : (levels : ℕ) → Agrees levels → (pairs others : List (Pair Value)) → most (map (λ (pair : Pair ℕ). pair.value) (map with_depth pairs)) < levels
     → slice_cmp (pair_cmp rank_of compared) pairs others ≡ slice_cmp (pair_cmp rank_of (within levels)) pairs others
 pairs_agree levels agree [] [] below = refl
 pairs_agree levels agree [] (other ∷ others) below = refl

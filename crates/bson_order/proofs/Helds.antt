@@ -9,7 +9,7 @@ use Rattle.bson_values.specs.declared.value.Value.TheViews.{out-Value}
 use Rattle.bson_values.specs.declared.value.Value.TheVariants as value
 use Rattle.bson_values.specs.declared.value.Value.TheOpen.{Value-F}
 use Rattle.bson_values.specs.declared.value.Value.TheFolds.{fold_out-Value}
-use Rattle.bson_order.specs.Key.{int64, cstring, string, binary, bool, element_of, items_from, held_in, held, enclosed, element, key}
+use Rattle.bson_order.specs.Key.{int64, cstring, string, binary, bool, element_of, items_from, held_in, held, enclosed, element}
 
 -- what is held, where the values in it are values
 abbrev pub held_layer : Value-F Value → ℕ × List ℕ

@@ -10,7 +10,9 @@ use Rattle.bson_values.specs.declared.pairs.Pair.{Pair}
 use Rattle.bson_values.specs.declared.value.Value.{Value}
 use Rattle.bson_values.specs.declared.value.Value.TheViews.{out-Value}
 use Rattle.bson_values.specs.declared.value.Value.TheOpen.{Value-F}
-use Rattle.bson_order.specs.Order.{rank_in, rank_of, bytes_cmp, pair_cmp, layer_cmp, compared}
+use Rattle.bson_order.specs.Order.{rank_in, rank_of, bytes_cmp, pair_cmp, layer_cmp, compared, Same}
+use Rattle.bson_order.proofs.Ties.{first_tied}
+use Rattle.bson_order.proofs.Layers.{compared_is}
 use Rattle.bson_order.proofs.Depths.{depth, within, agrees}
 
 -- ---- what a value is compared by, one after another
@@ -127,3 +129,7 @@ compared_total = record {
       let levels = depth x + depth y + 1 in
       agrees levels x (omega arith) z ∙ (within_total levels).congr x y z (sym (agrees levels x (omega arith) y) ∙ same) ∙ sym (agrees levels y (omega arith) z);
 }
+
+-- values that are the same have one rank
+pub same_rank : (one other : Value) → Same one other → nat_cmp (rank_of one) (rank_of other) ≡ Equal
+same_rank one other same = first_tied (nat_cmp (rank_of one) (rank_of other)) _ (sym (chain_is compared (out-Value one) (out-Value other)) ∙ sym (compared_is one other) ∙ same)

@@ -1,4 +1,4 @@
-ghost use Rattle.std.specs.Prelude.{◌≡◌, ◌++◌, ◌∷◌, ◌+◌, ◌-◌, ◌^◌, ◌≤◌, [], length, map, min, take, drop, IfOk, OnOk};
+ghost use Rattle.std.specs.Prelude.{◌≡◌, ◌++◌, ◌∷◌, ◌+◌, ◌-◌, ◌^◌, ◌<◌, ◌≤◌, [], length, map, min, take, drop, IfOk, OnOk};
 ghost use Rattle.std.specs.Fmt.{decimal};
 ghost use Rattle.std.specs.List.{flat_map};
 ghost use Rattle.bson_order.specs.Key.{int64, counted, cstring, string, binary, held, element_of, items_from, element, enclosed, key};
@@ -169,12 +169,17 @@ fn put_array(items: &List<Value>, out: &mut Bytes) -> Result<(), NoMemory>
     close(start, out)
 }
 
-/// Bytes that are equal exactly where values are the same.
+/// Bytes by which a value is told apart: `a_key_tells_values_apart` says how.
 pub fn id_key(alloc: Global, value: &Value) -> Result<Bytes, NoMemory>
-    ensures { IfOk result (λ bytes. bytes ≡ key value.now) }
+    ensures key { IfOk result (λ bytes. bytes ≡ key value.now) }
+    ensures short { IfOk result (λ bytes. length bytes < 2 ^ 63) }
 {
     let mut out = Bytes::new(alloc);
     out.extend(&[code(value)])?;
     put_content(value, &mut out)?;
+    // The lengths in a longer key could not say what they count.
+    if out.len() > i64::MAX as usize {
+        return Err(NoMemory);
+    }
     Ok(out)
 }

@@ -1,7 +1,9 @@
-ghost use Rattle.std.specs.Prelude.{◌≡◌, ◌↔◌};
+ghost use Rattle.std.specs.Prelude.{◌≡◌, ◌↔◌, ◌<◌, ◌^◌, length};
 ghost use Rattle.bson_values.specs.declared.value.Value.{Value};
 ghost use Rattle.bson_order.specs.Choice.{ExactlyOne};
+ghost use Rattle.bson_order.specs.Key.{key};
 ghost use Rattle.bson_order.specs.Order.{Below, Same};
+ghost use Rattle.bson_order.specs.Plain.{IsPlain};
 
 /// Any two values stand in exactly one of three ways.
 pub fn one_is_below_or_same_or_above()
@@ -27,4 +29,10 @@ pub fn same_is_neither_below_the_other()
 pub fn same_values_stand_at_one_place()
     ensures above { (a b c : Value) → Same a b → Below a c ↔ Below b c }
     ensures below { (a b c : Value) → Same a b → Below c a ↔ Below c b }
+{}
+
+/// Keys of plain values are equal exactly where the values are the same, unless a key is so long that its lengths are cut.
+pub fn a_key_tells_values_apart()
+    ensures same { (a b : Value) → Same a b → key a ≡ key b }
+    ensures only { (a b : Value) → IsPlain a → IsPlain b → length (key a) < 2 ^ 63 → key a ≡ key b → Same a b }
 {}

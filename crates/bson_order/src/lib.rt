@@ -7,8 +7,8 @@ mod order;
 
 pub use key::id_key;
 pub use laws::{
-    below_is_a_strict_order, one_is_below_or_same_or_above, same_is_an_equivalence,
-    same_is_neither_below_the_other, same_values_stand_at_one_place,
+    a_key_tells_values_apart, below_is_a_strict_order, one_is_below_or_same_or_above,
+    same_is_an_equivalence, same_is_neither_below_the_other, same_values_stand_at_one_place,
 };
 pub use order::{compare, rank, same};
 

@@ -29,18 +29,18 @@ pub fn rank(value: &Value) -> u8
 fn compare_binaries(a: &Binary, b: &Binary) -> Ordering
     ensures { result ≡ binary_cmp a.now b.now }
 {
-    a.bytes
-        .len()
-        .cmp(&b.bytes.len())
-        .then(a.subtype.cmp(&b.subtype))
-        .then(a.bytes.as_slice().cmp(b.bytes.as_slice()))
+    let lengths = a.bytes.len().cmp(&b.bytes.len());
+    let subtypes = a.subtype.cmp(&b.subtype);
+    let bytes = a.bytes.as_slice().cmp(b.bytes.as_slice());
+    lengths.then(subtypes).then(bytes)
 }
 
 fn compare_regexes(a: &Regex, b: &Regex) -> Ordering
     ensures { result ≡ regex_cmp a.now b.now }
 {
     let patterns = a.pattern.as_str().cmp(b.pattern.as_str());
-    patterns.then(a.options.as_str().cmp(b.options.as_str()))
+    let options = a.options.as_str().cmp(b.options.as_str());
+    patterns.then(options)
 }
 
 /// MongoDB's comparison of two values of the twelve types.

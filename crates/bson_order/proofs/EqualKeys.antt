@@ -1,5 +1,5 @@
 -- Plain values of one key are the same.
-use Rattle.std.proofs.Common.{◌≡◌, ◌<◌, ◌^◌, ◌+◌, ◌-◌, ℕ, ℤ, zero, suc, min, Bool, true, false, List, [], ◌∷◌, ◌++◌, length, map, drop, All, refl, sym, ap, subst, ◌∙◌, append_assoc, arith}
+use Rattle.std.proofs.Common.{◌≡◌, ◌<◌, ◌^◌, ◌+◌, ◌-◌, ℕ, ℤ, zero, suc, min, Bool, true, false, List, [], ◌∷◌, ◌++◌, length, map, drop, All, refl, sym, ap, ◌∙◌, append_assoc, arith}
 use Rattle.std.specs.declared.cmp.Ordering.TheVariants.{Equal}
 use Rattle.std.specs.Ordering.{nat_cmp, int_cmp, bool_cmp, ordering_then}
 use Rattle.std.specs.Cmp.Lexicographic.{slice_cmp}
@@ -14,10 +14,10 @@ use Rattle.std.proofs.lemmas.List.Concat.{flat_map-cons}
 use Rattle.std.proofs.lemmas.List.Elements.{All-head, All-tail}
 use Rattle.byteorder.specs.Numbers.{length-bytes_low_first}
 use Rattle.bson_values.specs.declared.pairs.Pair.{Pair}
-use Rattle.bson_values.specs.declared.value.Value.{Value, map-Value}
+use Rattle.bson_values.specs.declared.value.Value.{Value}
 use Rattle.bson_values.specs.declared.value.Value.TheViews.{out-Value}
 use Rattle.bson_values.specs.declared.value.Value.TheOpen.{Value-F}
-use Rattle.bson_values.specs.declared.value.Value.TheFolds.{every_here-Value, every_held-Value}
+use Rattle.bson_values.specs.declared.value.Value.TheFolds.{every_here-Value}
 use Rattle.bson_order.specs.Order.{rank_of, bytes_cmp, pair_cmp, layer_cmp, compared, Same}
 use Rattle.bson_order.specs.Key.{int64, counted, cstring, string, bool, binary, enclosed, element_of, items_from, held, element, key}
 use Rattle.bson_order.specs.Plain.{HasNoNul, IsPlainLayer, IsPlain}
@@ -26,53 +26,8 @@ use Rattle.bson_order.proofs.Layers.{compared_is}
 use Rattle.bson_order.proofs.Depths.{most, depth, with_depth, layer_depth, depth_is}
 use Rattle.bson_order.proofs.Total.{same_rank}
 use Rattle.bson_order.proofs.Helds.{held_layer, held_is}
+use Rattle.bson_order.proofs.Plains.{PlainPairs, PlainItems, HoldsPlain, holds_plain}
 use Rattle.bson_order.proofs.Parts.{cut, number_cut, long_cut, held_cut, name_cut}
-
--- ---- what stands in a plain value is plain
-
-abbrev PlainPairs : List (Pair Value) → Type 0
-PlainPairs [] = Unit {0}
-PlainPairs (pair ∷ pairs) = IsPlain pair.value × PlainPairs pairs
-
-abbrev PlainItems : List Value → Type 0
-PlainItems [] = Unit {0}
-PlainItems (item ∷ items) = IsPlain item × PlainItems items
-
-abbrev HoldsPlain : Value-F Value → Type 0
-HoldsPlain (Value-F.Doc pairs) = PlainPairs pairs
-HoldsPlain (Value-F.Arr items) = PlainItems items
-HoldsPlain layer = Unit {0}
-
-abbrev PlainValue : Type 0
-PlainValue = (it : Value) × IsPlain it
-
-abbrev bare : PlainValue → Value
-bare it = it.0
-
-plain_pairs : (pairs : List (Pair PlainValue)) → PlainPairs (map (λ (pair : Pair PlainValue). record { name = pair.name; value = bare pair.value }) pairs)
-plain_pairs [] = tt
-plain_pairs (pair ∷ pairs) = (pair.value.1, plain_pairs pairs)
-
-plain_items : (items : List PlainValue) → PlainItems (map bare items)
-plain_items [] = tt
-plain_items (item ∷ items) = (item.1, plain_items items)
-
-holds_bare : (layer : Value-F PlainValue) → HoldsPlain (map-Value PlainValue Value bare layer)
-holds_bare (Value-F.Doc pairs) = plain_pairs pairs
-holds_bare (Value-F.Arr items) = plain_items items
-holds_bare (Value-F.Str text) = tt
-holds_bare (Value-F.Bin it) = tt
-holds_bare (Value-F.Id id) = tt
-holds_bare (Value-F.Bool truth) = tt
-holds_bare (Value-F.Date moment) = tt
-holds_bare Value-F.Null = tt
-holds_bare (Value-F.Regex regex) = tt
-holds_bare (Value-F.Int number) = tt
-holds_bare (Value-F.Stamp stamp) = tt
-holds_bare (Value-F.Long number) = tt
-
-holds_plain : (it : Value) → IsPlain it → HoldsPlain (out-Value it)
-holds_plain it plain = let inside = every_held-Value IsPlainLayer it plain in subst HoldsPlain inside.1 (holds_bare inside.0)
 
 -- ---- lengths
 

@@ -6,5 +6,6 @@ pub mod Total
 pub mod Places
 pub mod Helds
 pub mod Parts
+pub mod Plains
 pub mod SameKeys
 pub mod EqualKeys

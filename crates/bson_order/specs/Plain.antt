@@ -24,3 +24,7 @@ IsPlainLayer layer = Unit {0}
 -- the same at every depth
 abbrev pub IsPlain : Value → Type 0
 IsPlain = every-Value IsPlainLayer
+
+-- a name with no U+0000, and a plain value
+abbrev pub IsPlainPair : Pair Value → Type 0
+IsPlainPair pair = HasNoNul pair.name × IsPlain pair.value

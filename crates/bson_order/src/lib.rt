@@ -4,6 +4,7 @@
 mod key;
 mod laws;
 mod order;
+mod plain;
 
 pub use key::id_key;
 pub use laws::{
@@ -11,6 +12,7 @@ pub use laws::{
     same_is_an_equivalence, same_is_neither_below_the_other, same_values_stand_at_one_place,
 };
 pub use order::{compare, rank, same};
+pub use plain::is_plain;
 
 #[cfg(test)]
 mod tests;

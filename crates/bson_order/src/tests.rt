@@ -2,7 +2,7 @@
 
 ghost use Rattle.std.specs.Prelude.{◌<◌};
 
-use crate::{compare, id_key, same};
+use crate::{compare, id_key, is_plain, same};
 use bson_values::{Binary, Bytes, Document, List, NoMemory, Regex, Text, Value};
 use std::alloc::Global;
 use std::cmp::Ordering;
@@ -144,6 +144,21 @@ const KEYS: [(Sample, &[u8]); 13] = [
     (Long(4), &[0x12, 4, 0, 0, 0, 0, 0, 0, 0]),
 ];
 
+/// Whether a 00 byte that ends a name or a text of a regex is the first one in it.
+const PLAINS: [(Sample, bool); 8] = [
+    (Str("a\0"), true),
+    (Doc(&[("a", Int(1)), ("", Date(0))]), true),
+    (Doc(&[("a", Int(1)), ("\0", Int(1))]), false),
+    (Doc(&[("a", Doc(&[("b\0", Null)]))]), false),
+    (Arr(&[Null, Doc(&[("b\0", Null)])]), false),
+    (
+        Arr(&[Stamp(u64::MAX), Id([0; 12]), Bool(false), Bin(0, &[0])]),
+        true,
+    ),
+    (Pattern("a\0", "i"), false),
+    (Pattern("a", "i\0"), false),
+];
+
 #[cycle(sample)]
 fn value(alloc: Global, sample: &Sample) -> Result<Value, NoMemory> {
     Ok(match sample {
@@ -212,6 +227,18 @@ fn a_key_with_ample_memory_has_these_bytes(rt: HostRuntime) -> Result<(), Fail> 
     for (place, (sample, bytes)) in KEYS.iter().enumerate() {
         let key = id_key(rt.alloc(), &value(rt.alloc(), sample)?)?;
         assert_eq!(rt; key.as_slice(), *bytes, "row {place}");
+    }
+    Ok(())
+}
+
+#[test]
+fn plain_values_have_no_nul_where_one_ends_them(rt: HostRuntime) -> Result<(), Fail> {
+    for (place, (sample, plain)) in PLAINS.iter().enumerate() {
+        assert_eq!(rt;
+            is_plain(&value(rt.alloc(), sample)?),
+            *plain,
+            "row {place}"
+        );
     }
     Ok(())
 }

@@ -1,5 +1,5 @@
 -- How two values compare, one level at a time.
-use Rattle.std.proofs.Common.{◌≡◌, ℕ, List, [], ◌∷◌, map, refl, sym, ap, ◌∙◌}
+use Rattle.std.proofs.Common.{◌≡◌, ℕ, List, [], ◌∷◌, map, refl, ap, ◌∙◌}
 use Rattle.std.specs.declared.cmp.Ordering.{Ordering}
 use Rattle.std.specs.Ordering.{nat_cmp, ordering_then}
 use Rattle.std.specs.Cmp.Lexicographic.{slice_cmp}
@@ -68,13 +68,12 @@ compared_is one other = ap (λ (s : Side). s.beside other) (fold_out-Value Side 
 
 -- ---- values that hold others
 
-by_layers : (one other : Value) (layer like : Value-F Value) → out-Value one ≡ layer → out-Value other ≡ like → layer_cmp rank_of compared layer like ≡ compared one other
-by_layers one other layer like is alike = sym (compared_is one other ∙ ap (λ (it : Value-F Value). layer_cmp rank_of compared it (out-Value other)) is ∙ ap (λ (it : Value-F Value). layer_cmp rank_of compared layer it) alike)
+by_layers : (one other : Value) (layer like : Value-F Value) → out-Value one ≡ layer → out-Value other ≡ like → compared one other ≡ layer_cmp rank_of compared layer like
+by_layers one other layer like is alike =
+    compared_is one other ∙ ap (λ (it : Value-F Value). layer_cmp rank_of compared it (out-Value other)) is ∙ ap (λ (it : Value-F Value). layer_cmp rank_of compared layer it) alike
 
-pub compared_documents : (one other : Value) (pairs others : List (Pair Value)) (result : Ordering) → one ≡ value.Doc pairs → other ≡ value.Doc others → result ≡ slice_cmp (pair_cmp rank_of compared) pairs others → result ≡ compared one other
-compared_documents one other pairs others result is like found =
-    found ∙ by_layers one other (Value-F.Doc pairs) (Value-F.Doc others) (ap out-Value is ∙ value.outs-Doc pairs) (ap out-Value like ∙ value.outs-Doc others)
+pub compared_documents : (pairs others : List (Pair Value)) → compared (value.Doc pairs) (value.Doc others) ≡ slice_cmp (pair_cmp rank_of compared) pairs others
+compared_documents pairs others = by_layers (value.Doc pairs) (value.Doc others) (Value-F.Doc pairs) (Value-F.Doc others) (value.outs-Doc pairs) (value.outs-Doc others)
 
-pub compared_arrays : (one other : Value) (items others : List Value) (result : Ordering) → one ≡ value.Arr items → other ≡ value.Arr others → result ≡ slice_cmp compared items others → result ≡ compared one other
-compared_arrays one other items others result is like found =
-    found ∙ by_layers one other (Value-F.Arr items) (Value-F.Arr others) (ap out-Value is ∙ value.outs-Arr items) (ap out-Value like ∙ value.outs-Arr others)
+pub compared_arrays : (items others : List Value) → compared (value.Arr items) (value.Arr others) ≡ slice_cmp compared items others
+compared_arrays items others = by_layers (value.Arr items) (value.Arr others) (Value-F.Arr items) (Value-F.Arr others) (value.outs-Arr items) (value.outs-Arr others)

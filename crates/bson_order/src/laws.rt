@@ -1,9 +1,20 @@
 ghost use Rattle.std.specs.Prelude.{◌≡◌, ◌↔◌, ◌<◌, ◌^◌, length};
-ghost use Rattle.bson_values.specs.declared.value.Value.{Value};
+ghost use Rattle.std.specs.Cmp.{IsTotalOrder};
+ghost use Rattle.bson_values.specs.declared.value.Value.{Value, out-Value};
 ghost use Rattle.bson_order.specs.Choice.{ExactlyOne};
 ghost use Rattle.bson_order.specs.Key.{key};
-ghost use Rattle.bson_order.specs.Order.{Below, Same};
+ghost use Rattle.bson_order.specs.Order.{Below, Same, rank_of, layer_cmp, compared};
 ghost use Rattle.bson_order.specs.Plain.{IsPlain};
+
+/// Two values compare as their layers do, by the ranks and the order of the values in them.
+pub fn values_compare_layer_by_layer()
+    ensures { (a b : Value) → compared a b ≡ layer_cmp rank_of compared (out-Value a) (out-Value b) }
+{}
+
+/// The order has the laws that sorting by it asks for.
+pub fn compared_is_a_total_order()
+    ensures { IsTotalOrder compared }
+{}
 
 /// Any two values stand in exactly one of three ways.
 pub fn one_is_below_or_same_or_above()

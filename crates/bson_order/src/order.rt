@@ -44,7 +44,7 @@ fn compare_regexes(a: &Regex, b: &Regex) -> Ordering
 }
 
 /// MongoDB's comparison of two values of the twelve types.
-#[tactic(auto, using(crate::proofs::Layers::compared_is))]
+#[tactic(auto, using(crate::proofs::Layers::compared_is, crate::proofs::Layers::compared_documents, crate::proofs::Layers::compared_arrays))]
 #[cycle(compare)]
 pub fn compare(a: &Value, b: &Value) -> Ordering
     ensures { result ≡ compared a.now b.now }

@@ -78,7 +78,7 @@ pairs_told levels are (pair ∷ pairs) (other ∷ others) below names labels pla
     let named = equal_tied nat_list_cmp_total pair.name other.name first.0 in
     both_tied _ _ (both_tied _ _ (same_rank pair.value other.value first.1) (both_tied _ _ named first.1)) rest
 
--- an item's name has no 00 byte
+-- items at one place have one name
 items_told : (levels : ℕ) → AreTold levels → (place : ℕ) (items others : List Value) → most (map depth items) < levels → PlainItems items → PlainItems others
     → length (items_from place (map held items)) < 2 ^ 63 → length (items_from place (map held others)) < 2 ^ 63 → items_from place (map held items) ≡ items_from place (map held others) → slice_cmp compared items others ≡ Equal
 items_told levels are place [] [] below plain like small few whole = refl

@@ -9,6 +9,7 @@ mod memory;
 mod pairs;
 mod pieces;
 mod space;
+mod storing;
 mod text;
 mod value;
 
@@ -18,8 +19,11 @@ pub use memory::NoMemory;
 pub use pairs::{Pair, Pairs};
 pub use pieces::{head, tail};
 pub use space::Space;
+pub use storing::{MOST_BYTES, MOST_LEVELS, Unstorable, storable};
 pub use text::Text;
 pub use value::{Binary, Document, Regex, Value};
 
+#[cfg(test)]
+mod refusals;
 #[cfg(test)]
 mod tests;

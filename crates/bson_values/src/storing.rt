@@ -150,8 +150,6 @@ pub fn storable(doc: &Document) -> Result<(), Unstorable>
     if doc.depth() > MOST_LEVELS {
         return Err(Unstorable::TooDeep);
     }
-    match look_at_fields(doc, 0) {
-        Ok(_) => Ok(()),
-        Err(wrong) => Err(wrong),
-    }
+    look_at_fields(doc, 0)?;
+    Ok(())
 }

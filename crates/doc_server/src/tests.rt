@@ -68,13 +68,19 @@ fn piped(
     cut: u64,
     bad_reads: &[u64],
     bad_writes: &[u64],
-) -> Result<Finished<MemoryLink>, Fail> {
+) -> Result<(u8, Option<Ended<MemoryLink>>), Fail> {
     let mut line = Vec::new(alloc);
     for word in words {
         line.push(String::from_str(alloc, word)?)?;
     }
     let mut world = MemoryWorld::new(link(alloc, input, cut, bad_reads, bad_writes)?);
-    Ok(ferret(alloc, &line, &mut world))
+    let Finished {
+        status,
+        console,
+        store,
+    } = ferret(alloc, &line, &mut world);
+    drop(store);
+    Ok((status, console))
 }
 
 #[test]
@@ -88,9 +94,9 @@ fn each_input_has_its_status_and_its_answers(rt: HostRuntime) -> Result<(), Fail
         ("a length of 15", &[15, 0, 0, 0], 7, 0, &[]),
     ];
     for (name, input, status, commands, written) in rows {
-        let finished = piped(rt.alloc(), &["pipe"], input, 65_536, &[], &[])?;
-        assert_eq!(rt; finished.status, status, "{name}");
-        let Some(console) = finished.console else {
+        let (told, console) = piped(rt.alloc(), &["pipe"], input, 65_536, &[], &[])?;
+        assert_eq!(rt; told, status, "{name}");
+        let Some(console) = console else {
             panic!(rt; "{name}: no console");
         };
         assert_eq!(rt; console.commands, commands, "{name}");
@@ -107,9 +113,9 @@ fn each_input_has_its_status_and_its_answers(rt: HostRuntime) -> Result<(), Fail
 fn other_words_are_bad(rt: HostRuntime) -> Result<(), Fail> {
     let rows: [&[&str]; 4] = [&[], &["pong"], &["pipe", "pipe"], &["pip"]];
     for words in rows {
-        let finished = piped(rt.alloc(), words, &PING, 65_536, &[], &[])?;
-        assert_eq!(rt; finished.status, 1);
-        assert!(rt; finished.console.is_none());
+        let (status, console) = piped(rt.alloc(), words, &PING, 65_536, &[], &[])?;
+        assert_eq!(rt; status, 1);
+        assert!(rt; console.is_none());
     }
     Ok(())
 }
@@ -150,9 +156,9 @@ fn a_document_goes_in_and_comes_out_however_the_input_is_cut(rt: HostRuntime) ->
     let mut answers = Bytes::of(rt.alloc(), &INSERTED)?;
     answers.extend(&FOUND)?;
     for cut in [1, 3, 65_536] {
-        let finished = piped(rt.alloc(), &["pipe"], input.as_slice(), cut, &[], &[])?;
-        assert_eq!(rt; finished.status, 0, "cut to {cut}");
-        let Some(console) = finished.console else {
+        let (status, console) = piped(rt.alloc(), &["pipe"], input.as_slice(), cut, &[], &[])?;
+        assert_eq!(rt; status, 0, "cut to {cut}");
+        let Some(console) = console else {
             panic!(rt; "no console");
         };
         assert_eq!(rt;
@@ -196,8 +202,8 @@ fn an_equal_id_is_a_write_error(rt: HostRuntime) -> Result<(), Fail> {
     input.extend(&INSERT_TEXT)?;
     input.extend(&INSERT)?;
     input.extend(&FIND)?;
-    let finished = piped(rt.alloc(), &["pipe"], input.as_slice(), 65_536, &[], &[])?;
-    let Some(console) = finished.console else {
+    let (status, console) = piped(rt.alloc(), &["pipe"], input.as_slice(), 65_536, &[], &[])?;
+    let Some(console) = console else {
         panic!(rt; "no console");
     };
     let written = console.link.written().unwrap_or(b"");
@@ -218,8 +224,8 @@ fn found_among(alloc: Global, count: u8) -> Result<Document, Fail> {
         input.extend(&insert)?;
     }
     input.extend(&FIND)?;
-    let finished = piped(alloc, &["pipe"], input.as_slice(), 65_536, &[], &[])?;
-    let Some(console) = finished.console else {
+    let (status, console) = piped(alloc, &["pipe"], input.as_slice(), 65_536, &[], &[])?;
+    let Some(console) = console else {
         return Ok(Document::new(alloc));
     };
     let written = console.link.written().unwrap_or(b"");
@@ -248,13 +254,13 @@ fn a_find_shows_at_most_101_documents(rt: HostRuntime) -> Result<(), Fail> {
 #[test]
 fn a_failed_call_ends_the_connection_at_once(rt: HostRuntime) -> Result<(), Fail> {
     for read in 0..=51 {
-        let finished = piped(rt.alloc(), &["pipe"], &PING, 1, &[read], &[])?;
-        assert_eq!(rt; finished.status, 8, "read {read}");
+        let (status, console) = piped(rt.alloc(), &["pipe"], &PING, 1, &[read], &[])?;
+        assert_eq!(rt; status, 8, "read {read}");
     }
     let mut input = Bytes::of(rt.alloc(), &PING)?;
     input.extend(&PING)?;
     for (write, len) in [(0, 0), (1, 34)] {
-        let finished = piped(
+        let (status, console) = piped(
             rt.alloc(),
             &["pipe"],
             input.as_slice(),
@@ -262,8 +268,8 @@ fn a_failed_call_ends_the_connection_at_once(rt: HostRuntime) -> Result<(), Fail
             &[],
             &[write],
         )?;
-        assert_eq!(rt; finished.status, 4, "write {write}");
-        let Some(console) = finished.console else {
+        assert_eq!(rt; status, 4, "write {write}");
+        let Some(console) = console else {
             panic!(rt; "no console");
         };
         assert_eq!(rt; console.commands, write + 1, "write {write}");
@@ -546,8 +552,8 @@ fn message(alloc: Global, fields: Fields) -> Result<Bytes, NoMemory> {
 
 /// What was written for the input, without the 21 bytes of the first header.
 fn answered(alloc: Global, input: &[u8]) -> Result<Document, Fail> {
-    let finished = piped(alloc, &["pipe"], input, 65_536, &[], &[])?;
-    let Some(console) = finished.console else {
+    let (status, console) = piped(alloc, &["pipe"], input, 65_536, &[], &[])?;
+    let Some(console) = console else {
         return Ok(Document::new(alloc));
     };
     let written = console.link.written().unwrap_or(b"");

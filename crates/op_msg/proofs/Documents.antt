@@ -1,11 +1,11 @@
 -- Documents within a message.
-use Rattle.std.proofs.Common.{◌≡◌, ℕ, ◌+◌, ◌≤◌, List, ◌++◌, length, take, drop, refl, sym, ap, subst, ◌∙◌, arith}
-use Rattle.std.specs.Prelude.{Option, None, Some, Result, Ok, Err, unwrap_or}
+use Rattle.std.proofs.Common.{◌≡◌, ℕ, ◌+◌, ◌≤◌, List, length, take, drop, sym, ap, ◌∙◌, arith}
+use Rattle.std.specs.Prelude.{Option, Some, Result, Ok, Err, unwrap_or}
 use Rattle.std.proofs.lemmas.List.{take-append-drop}
 use Rattle.bson_wire.specs.Grammar.{spells}
 use Rattle.bson_wire.specs.declared.refused.ReadRefused.{ReadRefused}
 use Rattle.bson_wire.specs.declared.refused.ReadRefused.TheVariants.{Malformed, NoMemory}
-use Rattle.bson_wire.specs.Reading.{document_at, fault_of, fault, Tells}
+use Rattle.bson_wire.specs.Reading.{document_at, fault_of, Tells}
 use Rattle.bson_wire.proofs.Documents.{document_again}
 use Rattle.bson_wire.proofs.Places.{NotPast, document-not}
 use Rattle.bson_wire.proofs.Values.{Doc}

@@ -1,6 +1,6 @@
 -- Messages: what is read is one, and each is read.
-use Rattle.std.proofs.Common.{◌≡◌, ℕ, ℤ, ◌+◌, ◌-◌, ◌*◌, ◌^◌, ◌<◌, ◌≤◌, Bool, true, false, ltb, List, [], ◌∷◌, ◌++◌, length, get_or, take, drop, refl, sym, ap, subst, ◌∙◌, append_assoc, arith, length-drop, length-take, length-append}
-use Rattle.std.specs.Prelude.{Result, Ok, FitsSigned}
+use Rattle.std.proofs.Common.{◌≡◌, ℕ, ℤ, ◌+◌, ◌-◌, ◌^◌, ◌<◌, ◌≤◌, false, ltb, List, [], ◌∷◌, ◌++◌, length, get_or, take, drop, refl, sym, ap, subst, ◌∙◌, append_assoc, arith, length-drop, length-take, length-append}
+use Rattle.std.specs.Prelude.{Ok, FitsSigned}
 use Rattle.std.specs.Int.{w32, cast_signed, cast_unsigned}
 use Rattle.std.proofs.lemmas.Bool.{le-ltb, ne_eqb}
 use Rattle.std.proofs.lemmas.Int.{ints, to_z-of_z, of_z-to_z}
@@ -10,13 +10,13 @@ use Rattle.byteorder.specs.Numbers.{little_from-lt, little_number-reads_back}
 use Rattle.bson_wire.specs.Spelling.{int32}
 use Rattle.bson_wire.specs.Grammar.{spells, spells_within}
 use Rattle.bson_wire.specs.Reading.{document_at, number_at}
-use Rattle.bson_wire.proofs.Bytes.{IsBytes, IsBytes-rest, regrouped}
+use Rattle.bson_wire.proofs.Bytes.{IsBytes, IsBytes-rest}
 use Rattle.bson_wire.proofs.Documents.{document_takes, document_again}
 use Rattle.bson_wire.proofs.Numbers.{number_takes}
 use Rattle.bson_wire.proofs.Values.{Doc}
 use Rattle.op_msg.specs.declared.message.Message.{Message}
 use Rattle.op_msg.specs.Stream.{InRange, message}
-use Rattle.op_msg.specs.Reading.{Fault, stated, sections_at, section_at, body_at, message_at}
+use Rattle.op_msg.specs.Reading.{stated, sections_at, section_at, body_at, message_at}
 use Rattle.op_msg.proofs.Inversions.{Fixed, message-fixed}
 
 pub append-nil : {A : Type 0} (xs : List A) → xs ++ [] ≡ xs

@@ -1,11 +1,11 @@
 -- The laws of the order, from those of a total order.
-use Rattle.std.proofs.Common.{◌≡◌, ◌↔◌, refl, sym, ap, ◌∙◌, inl, inr}
+use Rattle.std.proofs.Common.{◌≡◌, ◌↔◌, true, refl, sym, ap, ◌∙◌, inl, inr}
 use Rattle.std.specs.declared.cmp.Ordering.{Ordering}
 use Rattle.std.specs.declared.cmp.Ordering.TheVariants.{Less, Equal, Greater}
-use Rattle.std.specs.Ordering.{ordering_reverse}
+use Rattle.std.specs.Ordering.{ordering_reverse, is_eq}
 use Rattle.std.proofs.lemmas.Cmp.{tied_itself, tied_back, alike_right}
 use Rattle.bson_values.specs.declared.value.Value.{Value}
-use Rattle.bson_order.specs.Order.{compared, Below, Same}
+use Rattle.bson_order.specs.Order.{compared, Below, Same, is_same}
 use Rattle.bson_order.specs.Choice.{ExactlyOne}
 use Rattle.bson_order.proofs.Total.{compared_total}
 
@@ -47,3 +47,25 @@ alike_above a b c same = let alike = compared_total.congr a b c same in ((λ bel
 
 pub alike_below : (a b c : Value) → Same a b → Below c a ↔ Below c b
 alike_below a b c same = let alike = alike_right compared_total a b c same in ((λ below. sym alike ∙ below), (λ below. alike ∙ below))
+
+-- ---- the test
+
+equal_is : (found : Ordering) → (is_eq found ≡ true) ↔ (found ≡ Equal)
+equal_is Less = ((λ is. absurd cc), (λ is. absurd cc))
+equal_is Equal = ((λ is. refl), (λ is. refl))
+equal_is Greater = ((λ is. absurd cc), (λ is. absurd cc))
+
+-- it is passed exactly by values that are the same
+pub is_same_is : (a b : Value) → (is_same a b ≡ true) ↔ Same a b
+unfolding is_same
+is_same_is a b = equal_is (compared a b)
+
+reversed : (found : Ordering) → is_eq (ordering_reverse found) ≡ is_eq found
+reversed Less = refl
+reversed Equal = refl
+reversed Greater = refl
+
+-- the order of the two says nothing
+pub is_same_swaps : (a b : Value) → is_same a b ≡ is_same b a
+unfolding is_same
+is_same_swaps a b = sym (ap is_eq (turned a b (compared a b) refl) ∙ reversed (compared a b))

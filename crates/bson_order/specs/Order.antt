@@ -1,8 +1,8 @@
 -- The order of values: MongoDB's comparison, in twelve types.
-use Rattle.std.specs.Prelude.{ℕ, ◌≡◌, List, length}
+use Rattle.std.specs.Prelude.{ℕ, ◌≡◌, Bool, List, length}
 use Rattle.std.specs.declared.cmp.Ordering.{Ordering}
 use Rattle.std.specs.declared.cmp.Ordering.TheVariants.{Less, Equal}
-use Rattle.std.specs.Ordering.{nat_cmp, int_cmp, bool_cmp, ordering_then}
+use Rattle.std.specs.Ordering.{nat_cmp, int_cmp, bool_cmp, ordering_then, is_eq}
 use Rattle.std.specs.Cmp.Lexicographic.{slice_cmp}
 use Rattle.bson_values.specs.declared.pairs.Pair.{Pair}
 use Rattle.bson_values.specs.declared.value.Binary.{Binary}
@@ -82,3 +82,7 @@ Below one other = compared one other ≡ Less
 -- neither comes before the other
 abbrev pub Same : Value → Value → Type 0
 Same one other = compared one other ≡ Equal
+
+-- the same, as a test
+unfoldable pub is_same : Value → Value → Bool
+is_same one other = is_eq (compared one other)

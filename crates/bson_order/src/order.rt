@@ -1,7 +1,7 @@
 ghost use Rattle.std.specs.Prelude.{◌≡◌, ◌↔◌, IsTrue};
 ghost use Rattle.std.specs.Ordering.{nat_cmp};
 ghost use Rattle.std.specs.Cmp.Lexicographic.{slice_cmp};
-ghost use Rattle.bson_order.specs.Order.{Same, compared, rank_of, binary_cmp, regex_cmp, pair_cmp};
+ghost use Rattle.bson_order.specs.Order.{Same, compared, is_same, rank_of, binary_cmp, regex_cmp, pair_cmp};
 
 use bson_values::{Binary, Document, List, Pair, Regex, Value};
 use std::cmp::Ordering;
@@ -117,8 +117,10 @@ fn compare_arrays(a: &List<Value>, b: &List<Value>) -> Ordering
 }
 
 /// Whether neither comes before the other: an int is the same as the long of its number.
+#[tactic(auto, unfolding(crate::specs::Order::is_same))]
 pub fn same(a: &Value, b: &Value) -> bool
-    ensures { IsTrue result ↔ Same a.now b.now }
+    ensures is { IsTrue result ↔ Same a.now b.now }
+    ensures value { result ≡ is_same a.now b.now }
 {
     compare(a, b) == Ordering::Equal
 }

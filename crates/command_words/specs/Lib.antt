@@ -1,6 +1,6 @@
 pub mod Namespace
 pub mod Body
-pub mod Plain
+pub mod Items
 pub mod Refusal
 pub mod Meaning
 pub mod Lent

@@ -11,7 +11,7 @@ use Rattle.command_words.specs.declared.word.Word.{Word}
 use Rattle.command_words.specs.declared.word.Word.TheVariants.{Insert, Find}
 use Rattle.command_words.specs.Namespace.{is_database_name, is_collection_name}
 use Rattle.command_words.specs.Body.{word_in, own_in, has_twice, is_given, may_be, is_text, is_document, is_empty, are_documents, text_in, is_insert_name, is_find_name, has_only}
-use Rattle.command_words.specs.Plain.{is_one_plain}
+use Rattle.command_words.specs.Items.{is_one_item}
 
 -- the kind that stands beside the first test that holds
 abbrev pub first_kind : List (Bool × ℕ) → Option ℕ
@@ -40,7 +40,7 @@ insert_rows db body =
     ∷ (is_none (field_of body (codes "documents")), FIELD_MISSING)
     ∷ (not (is_collection_name db (text_in (own_in body))), INVALID_NAMESPACE)
     ∷ (not (has_only is_insert_name body), NOT_SUPPORTED)
-    ∷ (not (is_given is_one_plain (field_of body (codes "documents"))), NOT_SUPPORTED)
+    ∷ (not (is_given is_one_item (field_of body (codes "documents"))), NOT_SUPPORTED)
     ∷ []
 
 -- why a find is

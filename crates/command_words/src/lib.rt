@@ -3,11 +3,10 @@
 
 mod body;
 mod command;
+mod items;
 mod namespace;
-mod plain;
 mod refused;
 mod request;
-mod spelling;
 mod values;
 mod word;
 

@@ -5,8 +5,8 @@ ghost use Rattle.command_words.specs.Meaning.{insert_in, find_in, command_in};
 ghost use Rattle.command_words.specs.Refusal.{insert_rows, find_rows, rows_in};
 
 use crate::body::{are_of_find, are_of_insert, has_twice, own_in, word_in};
+use crate::items::one_item;
 use crate::namespace::{is_collection_name, is_database_name};
-use crate::plain::only_plain;
 use crate::values::{are_documents, is_document, is_empty};
 use crate::word::Word;
 use bson_values::{Document, Value};
@@ -78,7 +78,7 @@ fn insert<'a>(db: &'a str, body: &'a Document) -> Result<Request<'a>, Kind>
     if !are_of_insert(body.as_slice()) {
         return Err(NOT_SUPPORTED);
     }
-    let Some(doc) = only_plain(documents) else {
+    let Some(doc) = one_item(documents) else {
         return Err(NOT_SUPPORTED);
     };
     Ok(Request::Insert { db, coll, doc })

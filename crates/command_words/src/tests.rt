@@ -5,25 +5,35 @@ use op_msg::Message;
 use std::alloc::Global;
 use std::test::Fail;
 
-/// A document of numbers.
-type Numbers = &'static [(&'static str, i32)];
+/// The values of a document in a body.
+#[derive(Clone, Copy)]
+enum Inner {
+    Number(i32),
+    Long(i64),
+    /// The array `[1]`.
+    One,
+    /// The document `{"a.b": 1}`.
+    Dotted,
+}
+
+type Pairs = &'static [(&'static str, Inner)];
 
 /// The values of fields, as the rows write them.
 #[derive(Clone, Copy)]
 enum Given {
     Number(i32),
     Text(&'static str),
-    Document(Numbers),
-    Documents(&'static [Numbers]),
+    Document(Pairs),
+    Documents(&'static [Pairs]),
     /// The array `[1]`.
     One,
 }
 
 type Fields = &'static [(&'static str, Given)];
 
-const NONE: Numbers = &[];
+const NONE: Pairs = &[];
 
-const ID: Numbers = &[("_id", 1)];
+const ID: Pairs = &[("_id", Inner::Number(1))];
 
 const DOCUMENT: Given = Given::Documents(&[ID]);
 
@@ -32,6 +42,15 @@ const COLL: Given = Given::Text("c");
 const DB: Given = Given::Text("t");
 
 const INSERT: Fields = &[("insert", COLL), ("documents", DOCUMENT), ("$db", DB)];
+
+const INSERT_LONG: Fields = &[
+    ("insert", COLL),
+    (
+        "documents",
+        Given::Documents(&[&[("_id", Inner::Long(5_000_000_000))]]),
+    ),
+    ("$db", DB),
+];
 
 const FIND: Fields = &[("find", COLL), ("$db", DB)];
 
@@ -44,7 +63,7 @@ const FIND_ALL: Fields = &[
 const PING: Fields = &[("ping", Given::Number(1)), ("$db", Given::Text("admin"))];
 
 /// Bodies with the kinds by which they are refused.
-const REFUSED: [(Fields, u32); 18] = [
+const REFUSED: [(Fields, u32); 20] = [
     (&[("insert", COLL), ("documents", DOCUMENT)], 14),
     (&[("find", COLL), ("$db", Given::Number(1))], 17),
     (&[("find", COLL), ("$db", Given::Text("a b"))], 27),
@@ -70,7 +89,7 @@ const REFUSED: [(Fields, u32); 18] = [
     (
         &[
             ("find", COLL),
-            ("filter", Given::Document(&[("a", 1)])),
+            ("filter", Given::Document(&[("a", Inner::Number(1))])),
             ("$db", DB),
         ],
         29,
@@ -78,7 +97,10 @@ const REFUSED: [(Fields, u32); 18] = [
     (
         &[
             ("insert", COLL),
-            ("documents", Given::Documents(&[ID, &[("_id", 2)]])),
+            (
+                "documents",
+                Given::Documents(&[ID, &[("_id", Inner::Number(2))]]),
+            ),
             ("$db", DB),
         ],
         29,
@@ -86,7 +108,29 @@ const REFUSED: [(Fields, u32); 18] = [
     (
         &[
             ("insert", COLL),
-            ("documents", Given::Documents(&[&[("a", 2), ("_id", 1)]])),
+            (
+                "documents",
+                Given::Documents(&[&[("a", Inner::Number(2)), ("_id", Inner::Number(1))]]),
+            ),
+            ("$db", DB),
+        ],
+        29,
+    ),
+    (
+        &[
+            ("insert", COLL),
+            ("documents", Given::Documents(&[&[("_id", Inner::One)]])),
+            ("$db", DB),
+        ],
+        29,
+    ),
+    (
+        &[
+            ("insert", COLL),
+            (
+                "documents",
+                Given::Documents(&[&[("_id", Inner::Number(1)), ("a", Inner::Dotted)]]),
+            ),
             ("$db", DB),
         ],
         29,
@@ -104,29 +148,44 @@ const REFUSED: [(Fields, u32); 18] = [
     ),
 ];
 
-fn numbers(alloc: Global, pairs: Numbers) -> Result<Document, NoMemory> {
+fn one(alloc: Global) -> Result<Value, NoMemory> {
+    let mut items = List::new(alloc);
+    items.push(Value::Int(1)).map_err(|_| NoMemory)?;
+    Ok(Value::Arr(items))
+}
+
+fn dotted(alloc: Global) -> Result<Value, NoMemory> {
     let mut document = Document::new(alloc);
-    for (name, number) in pairs {
+    let name = Text::of(alloc, "a.b")?;
+    document.push(name, Value::Int(1)).map_err(|_| NoMemory)?;
+    Ok(Value::Doc(document))
+}
+
+fn inner_value(alloc: Global, given: Inner) -> Result<Value, NoMemory> {
+    match given {
+        Inner::Number(number) => Ok(Value::Int(number)),
+        Inner::Long(number) => Ok(Value::Long(number)),
+        Inner::One => one(alloc),
+        Inner::Dotted => dotted(alloc),
+    }
+}
+
+fn document(alloc: Global, pairs: Pairs) -> Result<Document, NoMemory> {
+    let mut document = Document::new(alloc);
+    for (name, given) in pairs {
         let name = Text::of(alloc, name)?;
-        document
-            .push(name, Value::Int(*number))
-            .map_err(|_| NoMemory)?;
+        let value = inner_value(alloc, *given)?;
+        document.push(name, value).map_err(|_| NoMemory)?;
     }
     Ok(document)
 }
 
-fn documents(alloc: Global, all: &[Numbers]) -> Result<Value, NoMemory> {
+fn documents(alloc: Global, all: &[Pairs]) -> Result<Value, NoMemory> {
     let mut items = List::new(alloc);
     for pairs in all {
-        let document = numbers(alloc, pairs)?;
+        let document = document(alloc, pairs)?;
         items.push(Value::Doc(document)).map_err(|_| NoMemory)?;
     }
-    Ok(Value::Arr(items))
-}
-
-fn one(alloc: Global) -> Result<Value, NoMemory> {
-    let mut items = List::new(alloc);
-    items.push(Value::Int(1)).map_err(|_| NoMemory)?;
     Ok(Value::Arr(items))
 }
 
@@ -134,7 +193,7 @@ fn value(alloc: Global, given: Given) -> Result<Value, NoMemory> {
     match given {
         Given::Number(number) => Ok(Value::Int(number)),
         Given::Text(words) => Ok(Value::Str(Text::of(alloc, words)?)),
-        Given::Document(pairs) => Ok(Value::Doc(numbers(alloc, pairs)?)),
+        Given::Document(pairs) => Ok(Value::Doc(document(alloc, pairs)?)),
         Given::Documents(all) => documents(alloc, all),
         Given::One => one(alloc),
     }
@@ -177,6 +236,21 @@ fn an_insert_is_read_with_its_one_document(rt: HostRuntime) -> Result<(), Fail> 
     assert_eq!(rt; space.coll.as_str(), "c");
     assert_eq!(rt; doc.len(), 1);
     assert!(rt; matches!(doc.pair(0), Some(("_id", Value::Int(1)))));
+    Ok(())
+}
+
+#[test]
+fn an_id_may_be_a_long(rt: HostRuntime) -> Result<(), Fail> {
+    let message = message(rt.alloc(), INSERT_LONG)?;
+    let Ok(
+        Command::Insert {
+            op: Op::Insert { doc, .. },
+        },
+    ) = Command::read(rt.alloc(), &message)
+    else {
+        panic!(rt; "no insert");
+    };
+    assert!(rt; matches!(doc.pair(0), Some(("_id", Value::Long(5_000_000_000)))));
     Ok(())
 }
 

@@ -1,34 +1,25 @@
 -- Each `_id` stands once in its space.
 use Rattle.std.proofs.Common.{◌≡◌, ⊎_elim, ℕ, Bool, true, false, List, [], ◌∷◌, ◌++◌, refl, ap, sym, subst}
 use Rattle.std.proofs.lemmas.Bool.{or_parts, or_from}
-use Rattle.std.proofs.lemmas.Cmp.{int_eq_equiv, nat_list_eq_equiv}
 use Rattle.history_lock.specs.declared.entry.Who.{Who}
 use Rattle.bson_values.specs.declared.pairs.Pair.{Pair}
 use Rattle.bson_values.specs.declared.space.Space.{Space}
 use Rattle.bson_values.specs.declared.value.Value.{Value}
-use Rattle.bson_values.specs.declared.value.Value.TheViews.{out-Value}
-use Rattle.bson_values.specs.declared.value.Value.TheOpen.{Value-F}
 use Rattle.bson_values.specs.Names.{same_space}
+use Rattle.bson_order.proofs.Places.{is_same_swaps}
 use Rattle.doc_model.specs.declared.op.Op.{Op}
 use Rattle.doc_model.specs.declared.op.Op.TheVariants.{Insert, Find}
 use Rattle.doc_model.specs.declared.op.OpReply.{OpReply}
 use Rattle.doc_model.specs.declared.op.OpReply.TheVariants.{Inserted, Selected, Refused, NoMemory}
-use Rattle.doc_model.specs.Store.{Store, empty_store, docs_of, same_key, same_id, has_id}
+use Rattle.doc_model.specs.Store.{Store, empty_store, docs_of, same_id, has_id}
 use Rattle.doc_model.specs.Step.{Meant, step, meant}
 use Rattle.doc_model.specs.Run.{Done, run}
 use Rattle.doc_model.specs.Laws.{HaveOwnIds, IdsAreOwn}
 use Rattle.doc_model.proofs.Inserts.{Landed, insert-came, space-equal}
 
 -- the order of the two says nothing
-key-swaps : (a b : Value-F Value) → same_key a b ≡ same_key b a
-key-swaps (Value-F.Int a) (Value-F.Int b) = int_eq_equiv.symm a b
-key-swaps (Value-F.Str a) (Value-F.Str b) = nat_list_eq_equiv.symm a b
-key-swaps _ (Value-F.Int b) = refl
-key-swaps _ (Value-F.Str b) = refl
-key-swaps _ _ = refl
-
 id-swaps : (a b : List (Pair Value)) → same_id a b ≡ same_id b a
-id-swaps (one ∷ ones) (other ∷ others) = key-swaps (out-Value one.value) (out-Value other.value)
+id-swaps (one ∷ ones) (other ∷ others) = is_same_swaps one.value other.value
 id-swaps [] [] = refl
 id-swaps [] (other ∷ others) = refl
 id-swaps (one ∷ ones) [] = refl

@@ -1,14 +1,11 @@
 -- A store of documents.
-use Rattle.std.specs.Prelude.{ℕ, Bool, false, ◌||◌, if◌then◌else◌, List, [], ◌∷◌, ◌++◌, Option, None, Some}
+use Rattle.std.specs.Prelude.{ℕ, Bool, false, if◌then◌else◌, List, [], ◌∷◌, ◌++◌, Option, None, Some}
 use Rattle.std.specs.List.{list_any}
-use Rattle.std.specs.Ordering.{int_eq}
-use Rattle.std.specs.Str.{bytes_eq}
 use Rattle.bson_values.specs.declared.pairs.Pair.{Pair}
 use Rattle.bson_values.specs.declared.space.Space.{Space}
 use Rattle.bson_values.specs.declared.value.Value.{Value}
-use Rattle.bson_values.specs.declared.value.Value.TheViews.{out-Value}
-use Rattle.bson_values.specs.declared.value.Value.TheOpen.{Value-F}
 use Rattle.bson_values.specs.Names.{same_space}
+use Rattle.bson_order.specs.Order.{is_same}
 use Rattle.doc_model.specs.declared.collection.Collection.{Collection}
 
 -- the collections in the order of their creation, and the number that is given next
@@ -20,15 +17,9 @@ pub record Store : Type 0 where
 abbrev pub empty_store : Store
 empty_store = record { collections = []; next = 1 }
 
--- the values are one `_id`: two int32s of one number, or two strings of the same bytes
-abbrev pub same_key : Value-F Value → Value-F Value → Bool
-same_key (Value-F.Int one) (Value-F.Int other) = int_eq one other
-same_key (Value-F.Str one) (Value-F.Str other) = bytes_eq one other
-same_key _ _ = false
-
--- the documents have the same `_id`, which is the first value of each
+-- the documents have the same `_id`, which is the first value of each: an int32 is the same as the int64 of its number
 abbrev pub same_id : List (Pair Value) → List (Pair Value) → Bool
-same_id (one ∷ ones) (other ∷ others) = same_key (out-Value one.value) (out-Value other.value)
+same_id (one ∷ ones) (other ∷ others) = is_same one.value other.value
 same_id _ _ = false
 
 -- one of the documents has the `_id` of this one

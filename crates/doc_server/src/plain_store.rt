@@ -1,16 +1,16 @@
 ghost use Rattle.std.specs.Prelude.{◌≡◌, ◌<◌, ◌++◌, ◌∷◌, [], ℕ, IfOk, OnErr, MatchOption, length, set, slice_get, Some};
 ghost use Rattle.std.specs.List.{position};
-ghost use Rattle.bson_values.specs.declared.value.Value.TheViews.{out-Value};
 ghost use Rattle.bson_values.specs.Names.{same_space};
 ghost use Rattle.history_lock.specs.declared.entry.Who.{Who};
 ghost use Rattle.doc_model.specs.declared.collection.Collection.{Collection as Kept};
-ghost use Rattle.doc_model.specs.Store.{empty_store, collection_of, docs_in, docs_of, same_key, same_id, has_id, with_last};
+ghost use Rattle.doc_model.specs.Store.{empty_store, collection_of, docs_in, docs_of, same_id, has_id, with_last};
 ghost use Rattle.doc_model.specs.declared.op.Op.TheVariants as op;
 ghost use Rattle.doc_model.specs.Step.{step};
 ghost use Rattle.doc_server.specs.Kept.{store_of, Adds, Stands};
 ghost use Rattle.doc_server.specs.Carried.{IsInsertReply};
 
-use bson_values::{Document, List, Space, Value};
+use bson_order::same;
+use bson_values::{Document, List, Space};
 use case_tables::{DUPLICATE_KEY, NUMBERS_SPENT, TOO_MANY_COLLECTIONS};
 use doc_model::{Collection, OpReply};
 use std::alloc::Global;
@@ -29,22 +29,11 @@ pub struct PlainStore {
     next: u64,
 }
 
-/// Whether two values are one `_id`.
-fn same_key(one: &Value, other: &Value) -> bool
-    ensures { result ≡ same_key (out-Value one.now) (out-Value other.now) }
-{
-    match (one, other) {
-        (Value::Int(one), Value::Int(other)) => one == other,
-        (Value::Str(one), Value::Str(other)) => one.as_str() == other.as_str(),
-        _ => false,
-    }
-}
-
 fn same_id(one: &Document, other: &Document) -> bool
     ensures { result ≡ same_id one.now other.now }
 {
     match (one.as_slice(), other.as_slice()) {
-        ([one, ..], [other, ..]) => same_key(&one.value, &other.value),
+        ([one, ..], [other, ..]) => same(&one.value, &other.value),
         _ => false,
     }
 }

@@ -1,14 +1,13 @@
 -- A fault stands no later than where the bytes end.
-use Rattle.std.proofs.Common.{◌≡◌, ℕ, zero, suc, ◌+◌, ◌-◌, ◌≤◌, Bool, true, false, cond, ◌==◌, ◌||◌, List, [], ◌∷◌, length, take, drop, sym, subst, arith}
+use Rattle.std.proofs.Common.{ℕ, zero, suc, ◌+◌, ◌-◌, ◌≤◌, Bool, true, false, ◌==◌, ◌||◌, List, [], ◌∷◌, length, take, drop, arith}
 use Rattle.std.specs.Prelude.{nat_lt, if◌then◌else◌, slice_index, Option, None, Some, Result, Ok, Err}
-use Rattle.std.specs.Int.{w32, w64, cast_signed}
 use Rattle.std.specs.List.{position}
 use Rattle.std.specs.Str.{is_utf8}
 use Rattle.byteorder.specs.Endian.{little_number}
 use Rattle.bson_values.specs.declared.value.Value.{Value}
 use Rattle.bson_values.specs.declared.value.Value.TheVariants as value
 use Rattle.bson_wire.specs.declared.foreign.Foreign.{Foreign}
-use Rattle.bson_wire.specs.Reading.{◌>>=◌, number_at, long_at, length_at, part_at, ended_at, text_of, nul_at, name_at, text_at, string_at, binary_at, id_at, bool_at, regex_at, int_at, date_at, stamp_at, int64_at, scalar_at, is_foreign, past_at, past_text_at, past_scoped_at, foreign_at, value_at, element_at, elements_at, enclosed_at, document_at, array_at, fault}
+use Rattle.bson_wire.specs.Reading.{◌>>=◌, number_at, long_at, length_at, part_at, ended_at, text_of, nul_at, name_at, text_at, string_at, binary_at, id_at, bool_at, regex_at, int_at, date_at, stamp_at, int64_at, scalar_at, is_foreign, past_at, past_text_at, past_scoped_at, foreign_at, value_at, element_at, elements_at, enclosed_at, document_at, array_at}
 use Rattle.bson_wire.proofs.Values.{Doc}
 
 -- the fault, where there is one, is at no later place

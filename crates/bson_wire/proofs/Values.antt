@@ -1,5 +1,5 @@
 -- Values and elements, where documents and arrays in them are read so: what is read is spelled so, and what is spelled so is read.
-use Rattle.std.proofs.Common.{◌≡◌, ℕ, zero, suc, ◌+◌, ◌-◌, ◌<◌, true, false, eqb, List, [], ◌∷◌, ◌++◌, length, refl, sym, ap, subst, ◌∙◌, append_assoc, arith, ◌⊎◌, inl, inr}
+use Rattle.std.proofs.Common.{◌≡◌, ℕ, zero, suc, ◌+◌, ◌-◌, ◌<◌, false, eqb, List, [], ◌∷◌, ◌++◌, length, refl, sym, ap, subst, ◌∙◌, append_assoc, arith, inl, inr}
 use Rattle.std.specs.Prelude.{Option, None, Some, Result, Ok}
 use Rattle.std.proofs.lemmas.Bool.{eqb-false}
 use Rattle.std.proofs.lemmas.List.{length-append}
@@ -10,7 +10,7 @@ use Rattle.bson_values.specs.declared.value.Value.TheOpen.{Value-F}
 use Rattle.bson_values.specs.declared.value.Value.TheVariants as value
 use Rattle.bson_wire.specs.declared.foreign.Foreign.{Foreign}
 use Rattle.bson_wire.specs.Spelling.{cstring}
-use Rattle.bson_wire.specs.Grammar.{Element, IsForeign, MayHold, IsArray, IsValue, Yields, IsElement, AreElements}
+use Rattle.bson_wire.specs.Grammar.{Element, MayHold, IsArray, IsValue, Yields, IsElement, AreElements}
 use Rattle.bson_wire.specs.Reading.{◌>>=◌, name_at, scalar_at, is_foreign, foreign_at, value_at, element_at, elements_at}
 use Rattle.bson_wire.proofs.Steps.{same_Ok, bind_ok, at_found}
 use Rattle.bson_wire.proofs.Bytes.{IsBytes, IsBytes-rest, Takes, regrouped}
@@ -53,6 +53,10 @@ none_in this code foreign three four is may =
       | inl at ↦ absurd (eqb-false this 3 three (sym is ∙ at))
       | inr may ↦ elim may [ inl at ↦ absurd (eqb-false this 4 four (sym is ∙ at)) | inr none ↦ none ]
     ]
+
+-- a type byte, a name and what stands behind it, and the rest
+element_whole : (code : ℕ) (bytes name behind content rest : List ℕ) → bytes ≡ cstring name ++ behind → behind ≡ content ++ rest → code ∷ bytes ≡ (code ∷ cstring name ++ content) ++ rest
+element_whole code bytes name behind content rest named held = ap (λ (it : List ℕ). code ∷ it) (regrouped bytes (cstring name) behind content rest named held)
 
 module _ (IsDocument : ℕ → List ℕ → Doc → List Foreign → Type 0) (document : ℕ → List ℕ → Result (Doc × List Foreign × List ℕ) ℕ) (array : ℕ → List ℕ → Result (List Value × List Foreign × List ℕ) ℕ) where
   -- ---- values
@@ -151,7 +155,7 @@ module _ (IsDocument : ℕ → List ℕ → Doc → List Foreign → Type 0) (do
       let made : Element × List ℕ = (record { name = name.0.0; value = content.0.0; foreign = content.0.1 }, content.0.2) in
       let element : Takes (IsElement IsDocument here) (code ∷ bytes) made = (
         code ∷ cstring name.0.0 ++ taken.0,
-        ap (λ (it : List ℕ). code ∷ it) (regrouped bytes (cstring name.0.0) name.0.1 taken.0 content.0.2 named.0 taken.1),
+        element_whole code bytes name.0.0 name.0.1 taken.0 content.0.2 named.0 taken.1,
         record { code = code; content = taken.0; whole = refl; name = named.1; value = taken.2 },
       ) in
       at_found (Takes (IsElement IsDocument place) (code ∷ bytes)) made found content.2 (subst (λ (p : ℕ). Takes (IsElement IsDocument p) (code ∷ bytes) made) same element)

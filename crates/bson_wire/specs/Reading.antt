@@ -1,7 +1,7 @@
 -- What stands at the front of some bytes, read from the left, or the place of the first fault there.
 -- `place` is the place that a fault of what is read has; `end` is the place where the bytes end.
 -- proofs/Documents.antt ties it to the grammar.
-use Rattle.std.specs.Prelude.{ℕ, zero, suc, ◌≡◌, ◌+◌, ◌-◌, ◌==◌, ◌||◌, nat_lt, true, false, if◌then◌else◌, List, [], ◌∷◌, length, take, drop, slice_index, Bool, Option, None, Some, Result, Ok, Err}
+use Rattle.std.specs.Prelude.{ℕ, zero, suc, ◌≡◌, ◌<◌, ◌+◌, ◌-◌, ◌==◌, ◌||◌, nat_lt, true, false, if◌then◌else◌, List, [], ◌∷◌, length, take, drop, slice_index, Bool, Option, None, Some, Result, Ok, Err}
 use Rattle.std.specs.Int.{w32, w64, cast_signed}
 use Rattle.std.specs.List.{position}
 use Rattle.std.specs.Str.{is_utf8}
@@ -197,6 +197,11 @@ first (it ∷ more) = Some it
 abbrev pub earlier : Option Foreign → Option Foreign → Option Foreign
 earlier None now = now
 earlier (Some it) now = Some it
+
+-- if there is one, it stands before that place
+abbrev pub Before : ℕ → Option Foreign → Type 0
+Before end None = Unit {0}
+Before end (Some it) = it.place < end
 
 -- what was read, with the first of its foreign elements alone
 abbrev pub with_first : {A : Type 0} → Result (A × List Foreign × List ℕ) ℕ → Result (A × Option Foreign × List ℕ) ℕ

@@ -1,5 +1,5 @@
-ghost use Rattle.std.specs.Prelude.{◌≡◌, ◌≤◌, length, IfOk};
-ghost use Rattle.bson_wire.specs.Reading.{Gives, is_foreign, past_at, past_text_at, past_scoped_at, foreign_at, earlier};
+ghost use Rattle.std.specs.Prelude.{◌≡◌, ◌≤◌, ℕ, length, IfOk};
+ghost use Rattle.bson_wire.specs.Reading.{Gives, is_foreign, past_at, past_text_at, past_scoped_at, foreign_at, earlier, Before};
 
 use crate::refused::ReadRefused;
 use crate::scalars::{length, part, text_part};
@@ -77,7 +77,8 @@ pub(crate) fn past_foreign(code: u8, bytes: &[u8], place: u64) -> Result<&[u8], 
 
 /// The earlier of two, where `now` was found behind `before`.
 pub(crate) fn earlier(before: Option<Foreign>, now: Option<Foreign>) -> Option<Foreign>
-    ensures { result ≡ earlier before now }
+    ensures value { result ≡ earlier before now }
+    ensures near { (end : ℕ) → Before end before → Before end now → Before end result }
 {
     match before {
         Some(foreign) => Some(foreign),

@@ -4,7 +4,7 @@ ghost use Rattle.bson_values.specs.declared.pairs.Pair.{Pair as Named};
 ghost use Rattle.bson_values.specs.declared.value.Value.{Value as Held};
 ghost use Rattle.bson_wire.specs.declared.foreign.Foreign.{Foreign as Other};
 ghost use Rattle.bson_wire.specs.Grammar.{pair_of, values, spells};
-ghost use Rattle.bson_wire.specs.Reading.{Gives, Tells, value_at, element_at, all_at, document_at, array_at, first, with_first, element_told, pairs_told, items_told};
+ghost use Rattle.bson_wire.specs.Reading.{Gives, Tells, value_at, element_at, all_at, document_at, array_at, first, Before, with_first, element_told, pairs_told, items_told};
 
 use crate::foreign::{Foreign, earlier, is_foreign, past_foreign};
 use crate::refused::ReadRefused;
@@ -33,10 +33,12 @@ fn value(
     end: u64,
     levels: u32,
 ) -> Result<(Option<Value>, Option<Foreign>, &[u8]), ReadRefused>
-    requires { length bytes.now ≤ end }
+    requires within { length bytes.now ≤ end }
+    requires near { place < end }
     ensures value { Gives (λ it. (it.0, it.1, it.2.now)) result
         (with_first (value_at (document_at levels) (array_at levels) end place code bytes.now)) }
     ensures shorter { IfOk result (λ it. length it.2.now ≤ length bytes.now) }
+    ensures near { IfOk result (λ it. Before end it.1) }
 {
     match code {
         0x03 => {
@@ -72,6 +74,7 @@ fn element(
     ensures value { Gives (λ it. (it.0.now, it.1, it.2, it.3.now)) result
         (element_told (element_at (document_at levels) (array_at levels) end code bytes.now)) }
     ensures shorter { IfOk result (λ it. length it.3.now ≤ length bytes.now) }
+    ensures near { IfOk result (λ it. Before end it.2) }
 {
     let place = end - (bytes.len() as u64 + 1);
     let (name, rest) = name(bytes, place)?;
@@ -120,8 +123,9 @@ fn elements(
     levels: u32,
 ) -> Result<(Document, Option<Foreign>), ReadRefused>
     requires { length bytes.now ≤ end }
-    ensures { Gives (λ it. (it.0, it.1)) result
+    ensures value { Gives (λ it. (it.0, it.1)) result
         (pairs_told (all_at (document_at levels) (array_at levels) end bytes.now)) }
+    ensures near { IfOk result (λ it. Before end it.1) }
 {
     let mut doc = Document::new(alloc);
     let mut foreign = None;
@@ -148,8 +152,9 @@ fn items(
     levels: u32,
 ) -> Result<(List<Value>, Option<Foreign>), ReadRefused>
     requires { length bytes.now ≤ end }
-    ensures { Gives (λ it. (it.0, it.1)) result
+    ensures value { Gives (λ it. (it.0, it.1)) result
         (items_told (all_at (document_at levels) (array_at levels) end bytes.now)) }
+    ensures near { IfOk result (λ it. Before end it.1) }
 {
     let mut items = List::new(alloc);
     let mut foreign = None;
@@ -178,6 +183,7 @@ fn document(
     requires { length bytes.now ≤ end }
     ensures value { Gives (λ it. (it.0, it.1, it.2.now)) result (with_first (document_at levels end bytes.now)) }
     ensures shorter { IfOk result (λ it. length it.2.now ≤ length bytes.now) }
+    ensures near { IfOk result (λ it. Before end it.1) }
 {
     let place = end - bytes.len() as u64;
     if levels == 0 {
@@ -208,6 +214,7 @@ fn array(
     requires { length bytes.now ≤ end }
     ensures value { Gives (λ it. (it.0, it.1, it.2.now)) result (with_first (array_at levels end bytes.now)) }
     ensures shorter { IfOk result (λ it. length it.2.now ≤ length bytes.now) }
+    ensures near { IfOk result (λ it. Before end it.1) }
 {
     let place = end - bytes.len() as u64;
     if levels == 0 {
@@ -236,6 +243,7 @@ pub fn read(alloc: Global, bytes: &[u8]) -> Result<Front, ReadRefused>
         → spells spelling doc foreign → bytes.now ≡ spelling ++ rest
         → MatchResult result (λ front. (front.doc ≡ doc) × (front.used ≡ length spelling) × (front.foreign ≡ first foreign))
         (λ refused. refused ≡ ReadRefused.NoMemory) }
+    ensures near { IfOk result (λ front. Before (length bytes.now) front.foreign) }
     // Malformed bytes are told by the place of their first fault.
     ensures place { IfErr result (λ refused. Tells refused bytes.now) }
 {

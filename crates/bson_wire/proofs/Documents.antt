@@ -14,6 +14,17 @@ use Rattle.bson_wire.proofs.Numbers.{length_takes, length_again}
 use Rattle.bson_wire.proofs.Names.{part_takes, part_again, ended_takes, ended_again}
 use Rattle.bson_wire.proofs.Values.{Doc, AreTaken, AreRead, IsArrayAt, elements_take, elements_again}
 
+-- a length, a part that a 00 byte ends, and the rest
+cut_so : (stated : ℕ) (bytes behind part inside rest : List ℕ) → bytes ≡ int32 stated ++ behind → behind ≡ part ++ rest → part ≡ cstring inside → length part ≡ stated - 4
+    → (bytes ≡ (int32 stated ++ cstring inside) ++ rest) × (length bytes ≡ 4 + (length inside + 1 + length rest)) × (length inside + 1 ≡ stated - 4)
+cut_so stated bytes behind part inside rest front parted ended counted =
+    let whole = regrouped bytes (int32 stated) behind (cstring inside) rest front (parted ∙ ap (λ (it : List ℕ). it ++ rest) ended) in
+    let lengths = ap length whole in (
+      whole,
+      omega (arith, lengths, length-append (int32 stated ++ cstring inside) rest, length-append (int32 stated) (cstring inside), length-append inside (0 ∷ []), length-bytes_low_first 0 4 stated),
+      omega (arith, counted, ap length ended, length-append inside (0 ∷ [])),
+    )
+
 module _ (IsDocument : ℕ → List ℕ → Doc → List Foreign → Type 0) (document : ℕ → List ℕ → Result (Doc × List Foreign × List ℕ) ℕ) (array : ℕ → List ℕ → Result (List Value × List Foreign × List ℕ) ℕ) where
   -- elements between their stated length and a 00 byte are a document
   document_made : (stated place : ℕ) (inside : List ℕ) (elements : List Element) → length inside + 1 ≡ stated - 4 → 5 ≤ stated → stated < 2 ^ 31 → AreElements IsDocument (place + 4) inside elements
@@ -39,15 +50,12 @@ module _ (IsDocument : ℕ → List ℕ → Doc → List Foreign → Type 0) (do
       let ended = ended_takes here part.0.0 inside.0 (omega arith) inside.1 in
       let fits_part = IsBytes-front part.0.0 part.0.1 number.0.1 parted.0 (IsBytes-rest (int32 number.0.0) number.0.1 bytes stated.0 fits) in
       let fits_inside : IsBytes front = subst IsBytes (sym ended.1) (IsBytes-front inside.0 (0 ∷ []) part.0.0 ended.0 fits_part) in
-      let len : length inside.0 + 1 ≡ number.0.0 - 4 = omega (arith, parted.1, ap length ended.0, length-append inside.0 (0 ∷ [])) in
-      let whole = regrouped bytes (int32 number.0.0) number.0.1 (cstring inside.0) part.0.1 stated.0 (parted.0 ∙ ap (λ (it : List ℕ). it ++ part.0.1) ended.0) in
-      let lengths : length bytes ≡ 4 + (length inside.0 + 1 + length part.0.1) =
-      ap length whole ∙ omega (arith, length-append (int32 number.0.0 ++ cstring inside.0) part.0.1, length-append (int32 number.0.0) (cstring inside.0), length-append inside.0 (0 ∷ []), length-bytes_low_first 0 4 number.0.0) in
-      let within : (place + 4) + length front ≡ end - (length part.0.1 + 1) = omega (arith, at, lengths, ap length ended.1) in
+      let cut = cut_so number.0.0 bytes number.0.1 part.0.0 inside.0 part.0.1 stated.0 parted.0 ended.0 parted.1 in
+      let within : (place + 4) + length front ≡ end - (length part.0.1 + 1) = omega (arith, at, cut.1, ap length ended.1) in
       let taken = elements_take IsDocument document array docs arrays (length front + 1) (end - (length part.0.1 + 1)) (place + 4) front all.0 fits_inside within all.1 in
       let are = subst (λ (it : List ℕ). AreElements IsDocument (place + 4) it all.0) ended.1 taken in
-      let made = document_made number.0.0 place inside.0 all.0 len stated.1 stated.2 are in
-      at_found (Takes (Encloses IsDocument place) bytes) (all.0, part.0.1) found inside.2 (int32 number.0.0 ++ cstring inside.0, whole, made)
+      let made = document_made number.0.0 place inside.0 all.0 cut.2 stated.1 stated.2 are in
+      at_found (Takes (Encloses IsDocument place) bytes) (all.0, part.0.1) found inside.2 (int32 number.0.0 ++ cstring inside.0, cut.0, made)
 
   enclosed_again : AreRead IsDocument document → AreRead (IsArrayAt IsDocument) array → (end place : ℕ) (spelling rest : List ℕ) (elements : List Element) → Encloses IsDocument place spelling elements
       → place + length (spelling ++ rest) ≡ end → enclosed_at document array end (spelling ++ rest) ≡ Ok (elements, rest)

@@ -10,7 +10,7 @@ use Rattle.bson_values.specs.declared.value.Value.TheOpen.{Value-F}
 use Rattle.bson_values.specs.declared.value.Value.TheVariants as value
 use Rattle.bson_wire.specs.declared.foreign.Foreign.{Foreign}
 use Rattle.bson_wire.specs.Spelling.{cstring}
-use Rattle.bson_wire.specs.Grammar.{Element, MayHold, IsArray, IsValue, Yields, IsElement, AreElements}
+use Rattle.bson_wire.specs.Grammar.{IsName, Element, MayHold, IsArray, IsValue, Yields, IsElement, AreElements}
 use Rattle.bson_wire.specs.Reading.{◌>>=◌, name_at, scalar_at, is_foreign, foreign_at, value_at, element_at, elements_at}
 use Rattle.bson_wire.proofs.Steps.{same_Ok, bind_ok, at_found}
 use Rattle.bson_wire.proofs.Bytes.{IsBytes, IsBytes-rest, Takes, regrouped}
@@ -140,6 +140,10 @@ module _ (IsDocument : ℕ → List ℕ → Doc → List Foreign → Type 0) (do
 
   -- ---- elements
 
+  element_made : (place code : ℕ) (it : Element) (content : List ℕ) → IsName it.name → Yields IsDocument place (place + (length it.name + 2)) code content it.value it.foreign
+      → IsElement IsDocument place (code ∷ cstring it.name ++ content) it
+  element_made place code it content named is = record { code = code; content = content; whole = refl; name = named; value = is }
+
   pub element_takes : AreTaken IsDocument document → AreTaken (IsArrayAt IsDocument) array → (end place code : ℕ) (bytes : List ℕ) (found : Element × List ℕ) → IsBytes bytes → place + (length bytes + 1) ≡ end
       → element_at document array end code bytes ≡ Ok found → Takes (IsElement IsDocument place) (code ∷ bytes) found
   unfolding element_at
@@ -156,7 +160,7 @@ module _ (IsDocument : ℕ → List ℕ → Doc → List Foreign → Type 0) (do
       let element : Takes (IsElement IsDocument here) (code ∷ bytes) made = (
         code ∷ cstring name.0.0 ++ taken.0,
         element_whole code bytes name.0.0 name.0.1 taken.0 content.0.2 named.0 taken.1,
-        record { code = code; content = taken.0; whole = refl; name = named.1; value = taken.2 },
+        element_made here code made.0 taken.0 named.1 taken.2,
       ) in
       at_found (Takes (IsElement IsDocument place) (code ∷ bytes)) made found content.2 (subst (λ (p : ℕ). Takes (IsElement IsDocument p) (code ∷ bytes) made) same element)
 

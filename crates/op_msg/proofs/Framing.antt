@@ -1,5 +1,5 @@
 -- A stream has one framing, however it is cut into pieces.
-use Rattle.std.proofs.Common.{◌≡◌, ◌⊎◌, inl, inr, ℕ, ◌<◌, ◌≤◌, List, [], ◌∷◌, ◌++◌, length, take, drop, get_or, refl, sym, ap, subst, ◌∙◌, append_assoc, arith, length-append, length-take}
+use Rattle.std.proofs.Common.{◌≡◌, ◌⊎◌, inl, inr, ℕ, ◌≤◌, List, [], ◌∷◌, ◌++◌, length, take, drop, refl, sym, ap, subst, ◌∙◌, append_assoc, arith, length-append}
 use Rattle.std.specs.Prelude.{Option, None, Some, Result, Ok, Err}
 use Rattle.std.specs.List.{flat_map}
 use Rattle.std.proofs.lemmas.Bool.{cases_lt, le-ltb}
@@ -7,7 +7,7 @@ use Rattle.std.proofs.lemmas.List.{drop_at}
 use Rattle.bson_wire.proofs.Bytes.{IsBytes}
 use Rattle.op_msg.specs.declared.message.Message.{Message}
 use Rattle.op_msg.specs.Stream.{message, in_order, frames, BeginsNone, TakenFrom}
-use Rattle.op_msg.specs.Reading.{Fault, stated, early, short, message_at, fault_of, first_of, fault}
+use Rattle.op_msg.specs.Reading.{Fault, stated, early, short, message_at, fault}
 use Rattle.op_msg.specs.Front.{Begins}
 use Rattle.op_msg.proofs.Messages.{append-nil, message-again}
 use Rattle.op_msg.proofs.Fronts.{message-front, early-none, front-begins}

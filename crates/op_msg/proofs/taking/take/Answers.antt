@@ -1,4 +1,4 @@
-use Rattle.std.proofs.Common.{arith, sym, ap, ◌∙◌}
+use Rattle.std.proofs.Common.{arith, sym, ◌∙◌}
 use Rattle.op_msg.specs.Reading.{stated}
 use Rattle.op_msg.proofs.Fronts.{taken-whole}
 use Rattle.op_msg.proofs.taking.take.Goals as goal

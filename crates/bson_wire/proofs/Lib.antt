@@ -7,6 +7,7 @@ pub mod Numbers
 pub mod Names
 pub mod Plain
 pub mod PlainAgain
+pub mod Passed
 pub mod Values
 pub mod Documents
 pub mod Answered

@@ -1,14 +1,13 @@
 -- A fault stands no later than where the bytes end.
-use Rattle.std.proofs.Common.{◌≡◌, ℕ, zero, suc, ◌+◌, ◌-◌, ◌≤◌, Bool, true, false, cond, ◌==◌, ◌||◌, List, [], ◌∷◌, length, take, drop, sym, subst, arith}
+use Rattle.std.proofs.Common.{ℕ, zero, suc, ◌+◌, ◌-◌, ◌≤◌, Bool, true, false, ◌==◌, ◌||◌, List, [], ◌∷◌, length, take, drop, arith}
 use Rattle.std.specs.Prelude.{nat_lt, if◌then◌else◌, slice_index, Option, None, Some, Result, Ok, Err}
-use Rattle.std.specs.Int.{w32, w64, cast_signed}
 use Rattle.std.specs.List.{position}
 use Rattle.std.specs.Str.{is_utf8}
 use Rattle.byteorder.specs.Endian.{little_number}
-use Rattle.bson_values.specs.declared.pairs.Pair.{Pair}
 use Rattle.bson_values.specs.declared.value.Value.{Value}
 use Rattle.bson_values.specs.declared.value.Value.TheVariants as value
-use Rattle.bson_wire.specs.Reading.{◌>>=◌, number_at, long_at, length_at, part_at, ended_at, text_of, nul_at, name_at, string_at, binary_at, id_at, bool_at, regex_at, int_at, date_at, stamp_at, int64_at, scalar_at, value_at, element_at, elements_at, enclosed_at, document_at, array_at, fault}
+use Rattle.bson_wire.specs.declared.foreign.Foreign.{Foreign}
+use Rattle.bson_wire.specs.Reading.{◌>>=◌, number_at, long_at, length_at, part_at, ended_at, text_of, nul_at, name_at, text_at, string_at, binary_at, id_at, bool_at, regex_at, int_at, date_at, stamp_at, int64_at, scalar_at, is_foreign, past_at, past_text_at, past_scoped_at, foreign_at, value_at, element_at, elements_at, enclosed_at, document_at, array_at}
 use Rattle.bson_wire.proofs.Values.{Doc}
 
 -- the fault, where there is one, is at no later place
@@ -62,10 +61,14 @@ unfolding name_at
 name-not place bytes =
     then_ place (nul_at place (position (λ byte. byte == 0) bytes)) _ (nul-not place (position (λ byte. byte == 0) bytes)) (λ len. then_ place (text_of place (take len bytes)) _ (text-not place (take len bytes)) (λ name. tt))
 
+text-part-not : (place : ℕ) (bytes : List ℕ) → NotPast place (text_at place bytes)
+unfolding text_at
+text-part-not place bytes =
+    then_ place (length_at place 1 bytes) _ (length-not place 1 bytes) (λ n. then_ place (part_at place n.0 n.1) _ (part-not place n.0 n.1) (λ part. then_ place (ended_at place part.0) _ (ended-not place part.0) (λ content. then_ place (text_of place content) _ (text-not place content) (λ text. tt))))
+
 string-not : (place : ℕ) (bytes : List ℕ) → NotPast place (string_at place bytes)
 unfolding string_at
-string-not place bytes =
-    then_ place (length_at place 1 bytes) _ (length-not place 1 bytes) (λ n. then_ place (part_at place n.0 n.1) _ (part-not place n.0 n.1) (λ part. then_ place (ended_at place part.0) _ (ended-not place part.0) (λ content. then_ place (text_of place content) _ (text-not place content) (λ text. tt))))
+string-not place bytes = then_ place (text_at place bytes) _ (text-part-not place bytes) (λ text. tt)
 
 binary-not : (place : ℕ) (bytes : List ℕ) → NotPast place (binary_at place bytes)
 unfolding binary_at
@@ -89,21 +92,47 @@ unfolding scalar_at
 scalar-not place code bytes =
     either place (code == 2) _ _ (string-not place bytes)
     (either place (code == 5) _ _ (binary-not place bytes)
-      (either place (code == 7) _ _ (id-not place bytes)
-        (either place (code == 8) _ _ (bool-not place bytes)
-          (either place (code == 9) (date_at place bytes) _ (then_ place (long_at place bytes) _ (long-not place bytes) (λ n. tt))
-            (either place (code == 10) (Ok (value.Null, bytes)) _ tt
-              (either place (code == 11) _ _ (regex-not place bytes)
-                (either place (code == 16) (int_at place bytes) _ (then_ place (number_at place bytes) _ (number-not place bytes) (λ n. tt))
-                  (either place (code == 17) (stamp_at place bytes) _ (then_ place (long_at place bytes) _ (long-not place bytes) (λ n. tt))
-                    (either place (code == 18) (int64_at place bytes) (Err place) (then_ place (long_at place bytes) _ (long-not place bytes) (λ n. tt)) (omega arith))))))))))
+    (either place (code == 7) _ _ (id-not place bytes)
+    (either place (code == 8) _ _ (bool-not place bytes)
+    (either place (code == 9) (date_at place bytes) _ (then_ place (long_at place bytes) _ (long-not place bytes) (λ n. tt))
+    (either place (code == 10) (Ok (value.Null, bytes)) _ tt
+    (either place (code == 11) _ _ (regex-not place bytes)
+    (either place (code == 16) (int_at place bytes) _ (then_ place (number_at place bytes) _ (number-not place bytes) (λ n. tt))
+    (either place (code == 17) (stamp_at place bytes) _ (then_ place (long_at place bytes) _ (long-not place bytes) (λ n. tt))
+    (either place (code == 18) (int64_at place bytes) (Err place) (then_ place (long_at place bytes) _ (long-not place bytes) (λ n. tt)) (omega arith))))))))))
 
-module _ (document : ℕ → List ℕ → Result (Doc × List ℕ) ℕ) (array : ℕ → List ℕ → Result (List Value × List ℕ) ℕ) (docs : (end : ℕ) (bytes : List ℕ) → NotPast end (document end bytes)) (arrays : (end : ℕ) (bytes : List ℕ) → NotPast end (array end bytes)) where
+past-not : (place len : ℕ) (bytes : List ℕ) → NotPast place (past_at place len bytes)
+unfolding past_at
+past-not place len bytes = then_ place (part_at place len bytes) _ (part-not place len bytes) (λ part. tt)
+
+past-text-not : (place : ℕ) (bytes : List ℕ) → NotPast place (past_text_at place bytes)
+unfolding past_text_at
+past-text-not place bytes = then_ place (text_at place bytes) _ (text-part-not place bytes) (λ text. tt)
+
+past-scoped-not : (place : ℕ) (bytes : List ℕ) → NotPast place (past_scoped_at place bytes)
+unfolding past_scoped_at
+past-scoped-not place bytes = then_ place (length_at place 14 bytes) _ (length-not place 14 bytes) (λ n. past-not place (n.0 - 4) n.1)
+
+foreign-not : (place code : ℕ) (bytes : List ℕ) → NotPast place (foreign_at place code bytes)
+unfolding foreign_at
+foreign-not place code bytes =
+    either place (code == 1) _ _ (past-not place 8 bytes)
+    (either place (code == 6) (Ok bytes) _ tt
+    (either place (code == 12) _ _ (then_ place (past_text_at place bytes) _ (past-text-not place bytes) (λ rest. past-not place 12 rest))
+    (either place (code == 13) _ _ (past-text-not place bytes)
+    (either place (code == 14) _ _ (past-text-not place bytes)
+    (either place (code == 15) _ _ (past-scoped-not place bytes)
+    (either place (code == 19) _ _ (past-not place 16 bytes)
+    (either place (code == 127) (Ok bytes) _ tt (either place (code == 255) (Ok bytes) (Err place) tt (omega arith)))))))))
+
+module _ (document : ℕ → List ℕ → Result (Doc × List Foreign × List ℕ) ℕ) (array : ℕ → List ℕ → Result (List Value × List Foreign × List ℕ) ℕ) (docs : (end : ℕ) (bytes : List ℕ) → NotPast end (document end bytes)) (arrays : (end : ℕ) (bytes : List ℕ) → NotPast end (array end bytes)) where
   value-not : (end place code : ℕ) (bytes : List ℕ) → place ≤ end → NotPast end (value_at document array end place code bytes)
   unfolding value_at
   value-not end place code bytes within =
       either end (code == 3) _ _ (then_ end (document end bytes) _ (docs end bytes) (λ doc. tt))
-      (either end (code == 4) _ _ (then_ end (array end bytes) _ (arrays end bytes) (λ items. tt)) (later place end (scalar_at place code bytes) within (scalar-not place code bytes)))
+      (either end (code == 4) _ _ (then_ end (array end bytes) _ (arrays end bytes) (λ items. tt))
+      (either end (is_foreign code) _ _ (then_ end (foreign_at place code bytes) _ (later place end (foreign_at place code bytes) within (foreign-not place code bytes)) (λ rest. tt))
+      (then_ end (scalar_at place code bytes) _ (later place end (scalar_at place code bytes) within (scalar-not place code bytes)) (λ it. tt))))
 
   element-not : (end code : ℕ) (bytes : List ℕ) → NotPast end (element_at document array end code bytes)
   unfolding element_at
@@ -112,32 +141,33 @@ module _ (document : ℕ → List ℕ → Result (Doc × List ℕ) ℕ) (array :
       let within : place ≤ end = omega arith in
       then_ end (name_at place bytes) _ (later place end (name_at place bytes) within (name-not place bytes)) (λ name. then_ end (value_at document array end place code name.1) _ (value-not end place code name.1 within) (λ v. tt))
 
-  elements-not : {A : Type 0} (keep : Pair Value → A) (most end : ℕ) (bytes : List ℕ) → NotPast end (elements_at document array keep most end bytes)
+  elements-not : (most end : ℕ) (bytes : List ℕ) → NotPast end (elements_at document array most end bytes)
   unfolding elements_at
-  elements-not keep zero end bytes = omega arith
-  elements-not keep (suc most) end [] = tt
-  elements-not keep (suc most) end (code ∷ bytes) =
-      then_ end (element_at document array end code bytes) _ (element-not end code bytes) (λ first. then_ end (elements_at document array keep most end first.1) _ (elements-not keep most end first.1) (λ others. tt))
+  elements-not zero end bytes = omega arith
+  elements-not (suc most) end [] = tt
+  elements-not (suc most) end (code ∷ bytes) =
+      then_ end (element_at document array end code bytes) _ (element-not end code bytes) (λ first. then_ end (elements_at document array most end first.1) _ (elements-not most end first.1) (λ others. tt))
 
-  enclosed-not : {A : Type 0} (keep : Pair Value → A) (end : ℕ) (bytes : List ℕ) → NotPast end (enclosed_at document array keep end bytes)
+  enclosed-not : (end : ℕ) (bytes : List ℕ) → NotPast end (enclosed_at document array end bytes)
   unfolding enclosed_at
-  enclosed-not keep end bytes =
+  enclosed-not end bytes =
       let place = end - length bytes in
       let within : place ≤ end = omega arith in
       then_ end (length_at place 5 bytes) _ (later place end (length_at place 5 bytes) within (length-not place 5 bytes)) (λ n.
-        then_ end (part_at place (n.0 - 4) n.1) _ (later place end (part_at place (n.0 - 4) n.1) within (part-not place (n.0 - 4) n.1)) (λ part.
-          let inner = end - (length part.1 + 1) in
-          let inside = take (length part.0 - 1) part.0 in
-          then_ end (elements_at document array keep (length inside + 1) inner inside) _ (later inner end (elements_at document array keep (length inside + 1) inner inside) (omega arith) (elements-not keep (length inside + 1) inner inside)) (λ found.
-            then_ end (ended_at place part.0) _ (later place end (ended_at place part.0) within (ended-not place part.0)) (λ it. tt))))
+      then_ end (part_at place (n.0 - 4) n.1) _ (later place end (part_at place (n.0 - 4) n.1) within (part-not place (n.0 - 4) n.1)) (λ part.
+      let inner = end - (length part.1 + 1) in
+      let inside = take (length part.0 - 1) part.0 in
+      then_ end (elements_at document array (length inside + 1) inner inside) _ (later inner end (elements_at document array (length inside + 1) inner inside) (omega arith) (elements-not (length inside + 1) inner inside)) (λ found.
+      then_ end (ended_at place part.0) _ (later place end (ended_at place part.0) within (ended-not place part.0)) (λ it. tt))))
 
 within-not : (levels : ℕ) → ((end : ℕ) (bytes : List ℕ) → NotPast end (document_at levels end bytes)) × ((end : ℕ) (bytes : List ℕ) → NotPast end (array_at levels end bytes))
 unfolding document_at array_at
 within-not zero = (λ end bytes. omega arith, λ end bytes. omega arith)
 within-not (suc levels) =
-    let inner = within-not levels in (
-      enclosed-not (document_at levels) (array_at levels) inner.0 inner.1 (λ pair. pair),
-      enclosed-not (document_at levels) (array_at levels) inner.0 inner.1 (λ pair. pair.value),
+    let inner = within-not levels in
+    let enclosed = enclosed-not (document_at levels) (array_at levels) inner.0 inner.1 in (
+      λ end bytes. then_ end (enclosed_at (document_at levels) (array_at levels) end bytes) _ (enclosed end bytes) (λ found. tt),
+      λ end bytes. then_ end (enclosed_at (document_at levels) (array_at levels) end bytes) _ (enclosed end bytes) (λ found. tt),
     )
 
 pub document-not : (end : ℕ) (bytes : List ℕ) → NotPast end (document_at 128 end bytes)

@@ -2,6 +2,7 @@
 use Rattle.std.proofs.Common.{◌≡◌, ℕ, ◌+◌, ◌^◌, ◌<◌, Bool, true, false, eqb, cond, List, [], ◌∷◌, ◌++◌, length, length-append, drop, refl, sym, ap, subst, ◌∙◌, arith, ◌⊎◌, inl, inr}
 use Rattle.std.specs.Prelude.{Result, Ok, Err, slice_index}
 use Rattle.std.specs.Int.{w32, w64, cast_signed}
+use Rattle.std.specs.Str.{IsUtf8}
 use Rattle.std.proofs.lemmas.Bool.{eqb-true}
 use Rattle.std.proofs.lemmas.Int.{ints, of_z-to_z}
 use denote.Hole.Carrier.{out}
@@ -12,8 +13,8 @@ use Rattle.bson_values.specs.declared.value.Value.{Value}
 use Rattle.bson_values.specs.declared.value.Value.TheViews.{out-Value}
 use Rattle.bson_values.specs.declared.value.Value.TheVariants as value
 use Rattle.bson_wire.specs.Spelling.{int32, int64, cstring, string, bool, binary}
-use Rattle.bson_wire.specs.Grammar.{IsInt, IsLong, IsValue}
-use Rattle.bson_wire.specs.Reading.{◌>>=◌, number_at, long_at, length_at, part_at, ended_at, text_of, name_at, string_at, binary_at, id_at, bool_at, regex_at, int_at, date_at, stamp_at, int64_at, scalar_at}
+use Rattle.bson_wire.specs.Grammar.{IsString, IsInt, IsLong, IsValue}
+use Rattle.bson_wire.specs.Reading.{◌>>=◌, number_at, long_at, length_at, part_at, ended_at, text_of, name_at, text_at, string_at, binary_at, id_at, bool_at, regex_at, int_at, date_at, stamp_at, int64_at, scalar_at}
 use Rattle.bson_wire.proofs.Steps.{bind_ok, at_found}
 use Rattle.bson_wire.proofs.Bytes.{IsBytes, Takes, regrouped}
 use Rattle.bson_wire.proofs.Texts.{text_takes}
@@ -36,9 +37,48 @@ length-after [] n is = absurd (omega arith)
 length-after (byte ∷ bytes) n is = omega (arith, is)
 
 -- which way a test went
-chosen : {A : Type 0} (test : Bool) (one other found : A) → cond test one other ≡ found → ((test ≡ true) × (one ≡ found)) ⊎ ((test ≡ false) × (other ≡ found))
+pub chosen : {A : Type 0} (test : Bool) (one other found : A) → cond test one other ≡ found → ((test ≡ true) × (one ≡ found)) ⊎ ((test ≡ false) × (other ≡ found))
 chosen true one other found is = inl (refl, is)
 chosen false one other found is = inr (refl, is)
+
+-- one type byte more
+pub by_type : {A : Type 0} (Is : ℕ → Type 0) (this code : ℕ) (one other : Result A ℕ) (found : A) → cond (eqb code this) one other ≡ Ok found → (one ≡ Ok found → Is this) → (other ≡ Ok found → Is code) → Is code
+by_type Is this code one other found is here there =
+    elim (chosen (eqb code this) one other (Ok found) is) [
+      | inl is_yes ↦ subst Is (sym (eqb-true code this is_yes.0)) (here is_yes.1)
+      | inr is_no ↦ there is_no.1
+    ]
+
+-- ---- strings
+
+-- a stated length, that many bytes with their 00, and the rest are a string and the rest
+string_made : (bytes : List ℕ) (stated : ℕ) (after part content rest text : List ℕ) → bytes ≡ int32 stated ++ after → after ≡ part ++ rest → part ≡ cstring content → length part ≡ stated → content ≡ text
+    → bytes ≡ string text ++ rest
+string_made bytes stated after part content rest text front parted ended counted same =
+    let len : length content + 1 ≡ stated = omega (arith, counted, ap length ended, length-append content (0 ∷ [])) in
+    let spelling : int32 stated ++ part ≡ string text = ap (λ (it : List ℕ). int32 stated ++ it) ended ∙ ap (λ (n : ℕ). int32 n ++ cstring content) (sym len) ∙ ap string same in
+    regrouped bytes (int32 stated) after part rest front parted ∙ ap (λ (it : List ℕ). it ++ rest) spelling
+
+text_small : (stated : ℕ) (part content text : List ℕ) → part ≡ cstring content → length part ≡ stated → stated < 2 ^ 31 → content ≡ text → length text + 1 < 2 ^ 31
+text_small stated part content text ended counted small same = omega (arith, small, counted, ap length same, ap length ended, length-append content (0 ∷ []))
+
+is_string : (text : List ℕ) → IsUtf8 text → length text + 1 < 2 ^ 31 → IsString (string text) text
+is_string text utf8 small = record { utf8 = utf8; small = small; whole = refl }
+
+pub text_part_takes : (place : ℕ) (bytes : List ℕ) (found : List ℕ × List ℕ) → IsBytes bytes → text_at place bytes ≡ Ok found → (bytes ≡ string found.0 ++ found.1) × IsString (string found.0) found.0
+unfolding text_at
+text_part_takes place bytes found fits is =
+    let number = bind_ok (length_at place 1 bytes) (λ n. part_at place n.0 n.1 >>= λ part. ended_at place part.0 >>= λ content. text_of place content >>= λ text. Ok (text, part.1)) found is in
+    let part = bind_ok (part_at place number.0.0 number.0.1) (λ part. ended_at place part.0 >>= λ content. text_of place content >>= λ text. Ok (text, part.1)) found number.2 in
+    let content = bind_ok (ended_at place part.0.0) (λ content. text_of place content >>= λ text. Ok (text, part.0.1)) found part.2 in
+    let text = bind_ok (text_of place content.0) (λ text. Ok (text, part.0.1)) found content.2 in
+    let stated = length_takes place 1 bytes number.0 fits number.1 in
+    let parted = part_takes place number.0.0 number.0.1 part.0 part.1 in
+    let ended = ended_takes place part.0.0 content.0 (omega arith) content.1 in
+    let utf8 = text_takes place content.0 text.0 text.1 in
+    let whole = string_made bytes number.0.0 number.0.1 part.0.0 content.0 part.0.1 text.0 stated.0 parted.0 ended.0 parted.1 utf8.0 in
+    let small = text_small number.0.0 part.0.0 content.0 text.0 ended.0 parted.1 stated.2 utf8.0 in
+    at_found (λ it. (bytes ≡ string it.0 ++ it.1) × IsString (string it.0) it.0) (text.0, part.0.1) found text.2 (whole, is_string text.0 utf8.1 small)
 
 module _ (IsDocument : List ℕ → List (Pair Value) → Type 0) where
   -- the value behind a type byte
@@ -48,30 +88,12 @@ module _ (IsDocument : List ℕ → List (Pair Value) → Type 0) where
   abbrev pub Held : ℕ → List ℕ → Value × List ℕ → Type 0
   Held code bytes found = Takes (IsHeld code) bytes found
 
-  -- ---- strings
-
-  -- a stated length, that many bytes with their 00, and the rest are a string and the rest
-  string_made : (bytes : List ℕ) (stated : ℕ) (after part content rest text : List ℕ) → bytes ≡ int32 stated ++ after → after ≡ part ++ rest → part ≡ cstring content → length part ≡ stated → content ≡ text
-      → bytes ≡ string text ++ rest
-  string_made bytes stated after part content rest text front parted ended counted same =
-      let len : length content + 1 ≡ stated = omega (arith, counted, ap length ended, length-append content (0 ∷ [])) in
-      let spelling : int32 stated ++ part ≡ string text = ap (λ (it : List ℕ). int32 stated ++ it) ended ∙ ap (λ (n : ℕ). int32 n ++ cstring content) (sym len) ∙ ap string same in
-      regrouped bytes (int32 stated) after part rest front parted ∙ ap (λ (it : List ℕ). it ++ rest) spelling
-
   string_takes : (place : ℕ) (bytes : List ℕ) (found : Value × List ℕ) → IsBytes bytes → string_at place bytes ≡ Ok found → Held 2 bytes found
   unfolding string_at out-Value out
   string_takes place bytes found fits is =
-      let number = bind_ok (length_at place 1 bytes) (λ n. part_at place n.0 n.1 >>= λ part. ended_at place part.0 >>= λ content. text_of place content >>= λ text. Ok (value.Str text, part.1)) found is in
-      let part = bind_ok (part_at place number.0.0 number.0.1) (λ part. ended_at place part.0 >>= λ content. text_of place content >>= λ text. Ok (value.Str text, part.1)) found number.2 in
-      let content = bind_ok (ended_at place part.0.0) (λ content. text_of place content >>= λ text. Ok (value.Str text, part.0.1)) found part.2 in
-      let text = bind_ok (text_of place content.0) (λ text. Ok (value.Str text, part.0.1)) found content.2 in
-      let stated = length_takes place 1 bytes number.0 fits number.1 in
-      let parted = part_takes place number.0.0 number.0.1 part.0 part.1 in
-      let ended = ended_takes place part.0.0 content.0 (omega arith) content.1 in
-      let utf8 = text_takes place content.0 text.0 text.1 in
-      let whole = string_made bytes number.0.0 number.0.1 part.0.0 content.0 part.0.1 text.0 stated.0 parted.0 ended.0 parted.1 utf8.0 in
-      let small : length text.0 + 1 < 2 ^ 31 = omega (arith, ap length utf8.0, ap length ended.0, length-append content.0 (0 ∷ [])) in
-      at_found (Held 2 bytes) (value.Str text.0, part.0.1) found text.2 (string text.0, whole, (refl, record { utf8 = utf8.1; small = small; whole = refl }))
+      let text = bind_ok (text_at place bytes) (λ text. Ok (value.Str text.0, text.1)) found is in
+      let taken = text_part_takes place bytes text.0 fits text.1 in
+      at_found (Held 2 bytes) (value.Str text.0.0, text.0.1) found text.2 (string text.0.0, taken.0, (refl, taken.1))
 
   -- ---- binaries
 
@@ -167,14 +189,9 @@ module _ (IsDocument : List ℕ → List (Pair Value) → Type 0) where
 
   -- ---- all of them
 
-  -- one type byte more
-  pub by_code : (this code : ℕ) (one other : Result (Value × List ℕ) ℕ) (bytes : List ℕ) (found : Value × List ℕ) → cond (eqb code this) one other ≡ Ok found
+  by_code : (this code : ℕ) (one other : Result (Value × List ℕ) ℕ) (bytes : List ℕ) (found : Value × List ℕ) → cond (eqb code this) one other ≡ Ok found
       → (one ≡ Ok found → Held this bytes found) → (other ≡ Ok found → Held code bytes found) → Held code bytes found
-  by_code this code one other bytes found is here there =
-      elim (chosen (eqb code this) one other (Ok found) is) [
-        | inl is_yes ↦ subst (λ (c : ℕ). Held c bytes found) (sym (eqb-true code this is_yes.0)) (here is_yes.1)
-        | inr is_no ↦ there is_no.1
-      ]
+  by_code this code one other bytes found is here there = by_type (λ c. Held c bytes found) this code one other found is here there
 
   pub scalar_takes : (place code : ℕ) (bytes : List ℕ) (found : Value × List ℕ) → IsBytes bytes → scalar_at place code bytes ≡ Ok found → Held code bytes found
   unfolding scalar_at

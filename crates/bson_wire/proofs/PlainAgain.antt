@@ -8,17 +8,21 @@ use Rattle.bson_values.specs.declared.value.Regex.{Regex}
 use Rattle.bson_values.specs.declared.value.Value.TheVariants as value
 use Rattle.bson_wire.specs.Spelling.{int32, cstring, bool}
 use Rattle.bson_wire.specs.Grammar.{IsString, IsBinary, IsRegex, IsInt, IsLong, IsStamp}
-use Rattle.bson_wire.specs.Reading.{number_at, long_at, string_at, binary_at, id_at, bool_at, regex_at, int_at, date_at, stamp_at, int64_at}
+use Rattle.bson_wire.specs.Reading.{number_at, long_at, text_at, string_at, binary_at, id_at, bool_at, regex_at, int_at, date_at, stamp_at, int64_at}
 use Rattle.bson_wire.proofs.Texts.{text_again}
 use Rattle.bson_wire.proofs.Numbers.{number_again, long_again, length_again}
 use Rattle.bson_wire.proofs.Names.{name_again, part_again, ended_again}
 
-pub string_again : (place : ℕ) (spelling text rest : List ℕ) → IsString spelling text → string_at place (spelling ++ rest) ≡ Ok (value.Str text, rest)
-unfolding string_at
-string_again place spelling text rest is =
+pub text_part_again : (place : ℕ) (spelling text rest : List ℕ) → IsString spelling text → text_at place (spelling ++ rest) ≡ Ok (text, rest)
+unfolding text_at
+text_part_again place spelling text rest is =
     let regroup : spelling ++ rest ≡ int32 (length text + 1) ++ (cstring text ++ rest) = ap (λ (it : List ℕ). it ++ rest) is.whole ∙ append_assoc (int32 (length text + 1)) (cstring text) rest in
     let part = part_again place (length text + 1) (cstring text) rest (length-append text (0 ∷ [])) in
-    ap (string_at place) regroup ∙ rw (length_again place 1 (length text + 1) (cstring text ++ rest) (omega arith) is.small, part, ended_again place text, text_again place text is.utf8) refl
+    ap (text_at place) regroup ∙ rw (length_again place 1 (length text + 1) (cstring text ++ rest) (omega arith) is.small, part, ended_again place text, text_again place text is.utf8) refl
+
+pub string_again : (place : ℕ) (spelling text rest : List ℕ) → IsString spelling text → string_at place (spelling ++ rest) ≡ Ok (value.Str text, rest)
+unfolding string_at
+string_again place spelling text rest is = rw (text_part_again place spelling text rest is) refl
 
 pub binary_again : (place : ℕ) (spelling : List ℕ) (it : Binary) (rest : List ℕ) → IsBinary spelling it → binary_at place (spelling ++ rest) ≡ Ok (value.Bin it, rest)
 unfolding binary_at

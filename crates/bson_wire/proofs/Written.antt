@@ -1,5 +1,6 @@
 -- What is written is in the grammar.
-use Rattle.std.proofs.Common.{◌≡◌, ◌≢◌, ℕ, zero, suc, ◌+◌, ◌%◌, ◌^◌, ◌<◌, List, [], ◌∷◌, ◌++◌, length, length-append, map, All, refl, sym, ap, subst, ◌∙◌, arith}
+use Rattle.std.proofs.Common.{◌≡◌, ◌≢◌, ℕ, zero, suc, ◌+◌, ◌%◌, ◌^◌, ◌<◌, List, [], ◌∷◌, ◌++◌, length, length-append, map, All, refl, sym, ap, subst, ◌∙◌, arith, inr}
+use Rattle.std.specs.Prelude.{Some}
 use Rattle.std.specs.Fmt.{decimal}
 use Rattle.std.specs.List.{flat_map}
 use Rattle.std.proofs.lemmas.Fmt.{decimal_by_steps, IsAscii-decimal}
@@ -11,11 +12,11 @@ use Rattle.bson_values.specs.declared.value.Value.{Value}
 use Rattle.bson_values.specs.declared.value.Value.TheViews.{out-Value}
 use Rattle.bson_values.specs.declared.value.Value.TheOpen.{Value-F}
 use Rattle.bson_wire.specs.Spelling.{int32, held, items_from, element, enclosed, spell}
-use Rattle.bson_wire.specs.Grammar.{IsName, IsArray, IsValue, IsElement, AreElements, values, spells_within, spells}
+use Rattle.bson_wire.specs.Grammar.{Element, kept, foreigns, IsName, IsValue, IsElement, AreElements, values, spells_within, spells}
 use Rattle.bson_wire.specs.Spellable.{HasSpelling, IsSpellable}
 use Rattle.bson_wire.proofs.Helds.{held_layer, held_is}
 use Rattle.bson_wire.proofs.Sizes.{length-string, length-binary, length-enclosed, length-element_of}
-use Rattle.bson_wire.proofs.Values.{Doc}
+use Rattle.bson_wire.proofs.Values.{Doc, IsDocAt, IsArrayAt}
 
 -- ---- names of items
 
@@ -43,58 +44,74 @@ values_named place (item ∷ items) = ap (λ (rest : List Value). item ∷ rest)
 
 -- each value with a spelling in so many levels is spelled so
 abbrev AreSpelled : ℕ → Type 0
-AreSpelled levels = (it : Value) → HasSpelling (out-Value it) levels → length (held it).1 < 2 ^ 31 → IsValue (spells_within levels) (held it).0 (held it).1 (out-Value it)
+AreSpelled levels = (place : ℕ) (it : Value) → HasSpelling (out-Value it) levels → length (held it).1 < 2 ^ 31 → IsValue (IsDocAt (spells_within levels) place []) (held it).0 (held it).1 (out-Value it)
 
-element_spelled : (levels : ℕ) → AreSpelled levels → (pair : Pair Value) → IsName pair.name → HasSpelling (out-Value pair.value) levels → length (element pair) < 2 ^ 31 → IsElement (spells_within levels) (element pair) pair
-element_spelled levels are pair named has small =
+-- a pair as an element with nothing foreign in it
+abbrev as_element : Pair Value → Element
+as_element pair = record { name = pair.name; value = Some pair.value; foreign = [] }
+
+kept_all : (doc : Doc) → kept (map as_element doc) ≡ doc
+kept_all [] = refl
+kept_all (pair ∷ doc) = ap (λ (rest : Doc). pair ∷ rest) (kept_all doc)
+
+none_foreign : (doc : Doc) → foreigns (map as_element doc) ≡ []
+none_foreign [] = refl
+none_foreign (pair ∷ doc) = none_foreign doc
+
+element_spelled : (levels : ℕ) → AreSpelled levels → (place : ℕ) (pair : Pair Value) → IsName pair.name → HasSpelling (out-Value pair.value) levels → length (element pair) < 2 ^ 31
+    → IsElement (spells_within levels) place (element pair) (as_element pair)
+element_spelled levels are place pair named has small =
     let short : length (held pair.value).1 < 2 ^ 31 = omega (arith, length-element_of pair.name (held pair.value)) in
-    record { code = (held pair.value).0; content = (held pair.value).1; whole = refl; name = named; value = are pair.value has short }
+    record { code = (held pair.value).0; content = (held pair.value).1; whole = refl; name = named; value = (are (place + (length pair.name + 2)) pair.value has short, inr (inr refl)) }
 
 abbrev IsFit : ℕ → Pair Value → Type 0
 IsFit levels pair = IsName pair.name × HasSpelling (out-Value pair.value) levels
 
-elements_spelled : (levels : ℕ) → AreSpelled levels → (doc : Doc) → All (IsFit levels) doc → length (flat_map element doc) < 2 ^ 31 → AreElements (spells_within levels) (flat_map element doc) doc
-elements_spelled levels are [] fits small = refl
-elements_spelled levels are (pair ∷ doc) fits small =
+elements_spelled : (levels : ℕ) → AreSpelled levels → (place : ℕ) (doc : Doc) → All (IsFit levels) doc → length (flat_map element doc) < 2 ^ 31
+    → AreElements (spells_within levels) place (flat_map element doc) (map as_element doc)
+elements_spelled levels are place [] fits small = refl
+elements_spelled levels are place (pair ∷ doc) fits small =
     let rest = flat_map element doc in
     let whole = flat_map-cons element pair doc in
     let both : length (flat_map element (pair ∷ doc)) ≡ length (element pair) + length rest = ap length whole ∙ length-append (element pair) rest in
     let fit = All-head (IsFit levels) pair doc fits in
-    let first = element_spelled levels are pair fit.0 fit.1 (omega arith) in
-    let others = elements_spelled levels are doc (All-tail (IsFit levels) pair doc fits) (omega arith) in
+    let first = element_spelled levels are place pair fit.0 fit.1 (omega arith) in
+    let others = elements_spelled levels are (place + length (element pair)) doc (All-tail (IsFit levels) pair doc fits) (omega arith) in
     (element pair, rest, whole, first, others)
 
 abbrev IsFitItem : ℕ → Value → Type 0
 IsFitItem levels item = HasSpelling (out-Value item) levels
 
-items_spelled : (levels : ℕ) → AreSpelled levels → (place : ℕ) (items : List Value) → All (IsFitItem levels) items → place + length (items_from place (map held items)) < 2 ^ 31
-    → AreElements (spells_within levels) (items_from place (map held items)) (named_from place items)
-items_spelled levels are place [] fits small = refl
-items_spelled levels are place (item ∷ items) fits small =
+items_spelled : (levels : ℕ) → AreSpelled levels → (start place : ℕ) (items : List Value) → All (IsFitItem levels) items → place + length (items_from place (map held items)) < 2 ^ 31
+    → AreElements (spells_within levels) start (items_from place (map held items)) (map as_element (named_from place items))
+items_spelled levels are start place [] fits small = refl
+items_spelled levels are start place (item ∷ items) fits small =
     let pair : Pair Value = record { name = decimal place; value = item } in
     let rest = items_from (place + 1) (map held items) in
     let both : length (element pair ++ rest) ≡ length (element pair) + length rest = length-append (element pair) rest in
     let len = length-element_of (decimal place) (held item) in
-    let first = element_spelled levels are pair (item_name place (omega arith)) (All-head (IsFitItem levels) item items fits) (omega arith) in
-    let others = items_spelled levels are (place + 1) items (All-tail (IsFitItem levels) item items fits) (omega arith) in
+    let first = element_spelled levels are start pair (item_name place (omega arith)) (All-head (IsFitItem levels) item items fits) (omega arith) in
+    let others = items_spelled levels are (start + length (element pair)) (place + 1) items (All-tail (IsFitItem levels) item items fits) (omega arith) in
     (element pair, rest, refl, first, others)
 
-enclosed_spelled : (levels : ℕ) (inside : List ℕ) (pairs : Doc) → AreElements (spells_within levels) inside pairs → length (enclosed inside) < 2 ^ 31 → spells_within (suc levels) (enclosed inside) pairs
+enclosed_spelled : (levels place : ℕ) (inside : List ℕ) (pairs : Doc) → AreElements (spells_within levels) (place + 4) inside (map as_element pairs) → length (enclosed inside) < 2 ^ 31
+    → spells_within (suc levels) place (enclosed inside) pairs []
 unfolding spells_within
-enclosed_spelled levels inside pairs elements small =
-    record { inside = inside; small = small; whole = ap (λ (n : ℕ). int32 n ++ inside ++ 0 ∷ []) (sym (length-enclosed inside)); elements = elements }
+enclosed_spelled levels place inside pairs are small =
+    let whole = ap (λ (n : ℕ). int32 n ++ inside ++ 0 ∷ []) (sym (length-enclosed inside)) in
+    (map as_element pairs, record { inside = inside; small = small; whole = whole; are = are }, kept_all pairs, none_foreign pairs)
 
-document_spelled : (levels : ℕ) → AreSpelled levels → (doc : Doc) → All (IsFit levels) doc → length (spell doc) < 2 ^ 31 → spells_within (suc levels) (spell doc) doc
-document_spelled levels are doc fits small =
+document_spelled : (levels : ℕ) → AreSpelled levels → (place : ℕ) (doc : Doc) → All (IsFit levels) doc → length (spell doc) < 2 ^ 31 → spells_within (suc levels) place (spell doc) doc []
+document_spelled levels are place doc fits small =
     let inside = flat_map element doc in
-    enclosed_spelled levels inside doc (elements_spelled levels are doc fits (omega (arith, length-enclosed inside))) small
+    enclosed_spelled levels place inside doc (elements_spelled levels are (place + 4) doc fits (omega (arith, length-enclosed inside))) small
 
-array_spelled : (levels : ℕ) → AreSpelled levels → (items : List Value) → All (IsFitItem levels) items → length (enclosed (items_from 0 (map held items))) < 2 ^ 31
-    → IsArray (spells_within (suc levels)) (enclosed (items_from 0 (map held items))) items
-array_spelled levels are items fits small =
+array_spelled : (levels : ℕ) → AreSpelled levels → (place : ℕ) (items : List Value) → All (IsFitItem levels) items → length (enclosed (items_from 0 (map held items))) < 2 ^ 31
+    → IsArrayAt (spells_within (suc levels)) place (enclosed (items_from 0 (map held items))) items []
+array_spelled levels are place items fits small =
     let inside = items_from 0 (map held items) in
-    let elements = items_spelled levels are 0 items fits (omega (arith, length-enclosed inside)) in
-    (named_from 0 items, enclosed_spelled levels inside (named_from 0 items) elements small, values_named 0 items)
+    let elements = items_spelled levels are (place + 4) 0 items fits (omega (arith, length-enclosed inside)) in
+    (named_from 0 items, enclosed_spelled levels place inside (named_from 0 items) elements small, values_named 0 items)
 
 -- ---- level by level
 
@@ -103,31 +120,31 @@ abbrev AreSpelledBelow : ℕ → Type 0
 AreSpelledBelow zero = Unit {0}
 AreSpelledBelow (suc levels) = AreSpelled levels
 
-layer_spelled : (layer : Value-F Value) (levels : ℕ) → AreSpelledBelow levels → HasSpelling layer levels → length (held_layer layer).1 < 2 ^ 31 → IsValue (spells_within levels) (held_layer layer).0 (held_layer layer).1 layer
-layer_spelled (Value-F.Str text) levels below has small = (refl, record { utf8 = has; small = omega (arith, length-string text); whole = refl })
-layer_spelled (Value-F.Doc pairs) zero below has small = absurd has
-layer_spelled (Value-F.Doc pairs) (suc levels) below has small = (refl, document_spelled levels below pairs has small)
-layer_spelled (Value-F.Arr items) zero below has small = absurd has
-layer_spelled (Value-F.Arr items) (suc levels) below has small = (refl, array_spelled levels below items has small)
-layer_spelled (Value-F.Bin it) levels below has small = (refl, record { small = omega (arith, length-binary it.subtype it.bytes); whole = refl })
-layer_spelled (Value-F.Id id) levels below has small = (refl, has, refl)
-layer_spelled (Value-F.Bool truth) levels below has small = (refl, refl)
-layer_spelled (Value-F.Date moment) levels below has small = (refl, record { fits = has; whole = refl })
-layer_spelled Value-F.Null levels below has small = (refl, refl)
-layer_spelled (Value-F.Regex regex) levels below has small = (refl, record { pattern = has.0; options = has.1; whole = refl })
-layer_spelled (Value-F.Int number) levels below has small = (refl, record { fits = has; whole = refl })
-layer_spelled (Value-F.Stamp stamp) levels below has small = (refl, record { fits = has; whole = refl })
-layer_spelled (Value-F.Long number) levels below has small = (refl, record { fits = has; whole = refl })
+layer_spelled : (layer : Value-F Value) (levels place : ℕ) → AreSpelledBelow levels → HasSpelling layer levels → length (held_layer layer).1 < 2 ^ 31 → IsValue (IsDocAt (spells_within levels) place []) (held_layer layer).0 (held_layer layer).1 layer
+layer_spelled (Value-F.Str text) levels place below has small = (refl, record { utf8 = has; small = omega (arith, length-string text); whole = refl })
+layer_spelled (Value-F.Doc pairs) zero place below has small = absurd has
+layer_spelled (Value-F.Doc pairs) (suc levels) place below has small = (refl, document_spelled levels below place pairs has small)
+layer_spelled (Value-F.Arr items) zero place below has small = absurd has
+layer_spelled (Value-F.Arr items) (suc levels) place below has small = (refl, array_spelled levels below place items has small)
+layer_spelled (Value-F.Bin it) levels place below has small = (refl, record { small = omega (arith, length-binary it.subtype it.bytes); whole = refl })
+layer_spelled (Value-F.Id id) levels place below has small = (refl, has, refl)
+layer_spelled (Value-F.Bool truth) levels place below has small = (refl, refl)
+layer_spelled (Value-F.Date moment) levels place below has small = (refl, record { fits = has; whole = refl })
+layer_spelled Value-F.Null levels place below has small = (refl, refl)
+layer_spelled (Value-F.Regex regex) levels place below has small = (refl, record { pattern = has.0; options = has.1; whole = refl })
+layer_spelled (Value-F.Int number) levels place below has small = (refl, record { fits = has; whole = refl })
+layer_spelled (Value-F.Stamp stamp) levels place below has small = (refl, record { fits = has; whole = refl })
+layer_spelled (Value-F.Long number) levels place below has small = (refl, record { fits = has; whole = refl })
 
 value_by : (levels : ℕ) → AreSpelledBelow levels → AreSpelled levels
-value_by levels below it has small =
+value_by levels below place it has small =
     let same = held_is it in
     let short : length (held_layer (out-Value it)).1 < 2 ^ 31 = omega (arith, ap (λ (h : ℕ × List ℕ). length h.1) same) in
-    subst (λ (h : ℕ × List ℕ). IsValue (spells_within levels) h.0 h.1 (out-Value it)) (sym same) (layer_spelled (out-Value it) levels below has short)
+    subst (λ (h : ℕ × List ℕ). IsValue (IsDocAt (spells_within levels) place []) h.0 h.1 (out-Value it)) (sym same) (layer_spelled (out-Value it) levels place below has short)
 
 value_spelled : (levels : ℕ) → AreSpelled levels
 value_spelled zero = value_by zero tt
 value_spelled (suc levels) = value_by (suc levels) (value_spelled levels)
 
-pub spelled : (doc : Doc) → IsSpellable doc → spells (spell doc) doc
-spelled doc is = document_spelled 127 (value_spelled 127) doc is.fits is.small
+pub spelled : (doc : Doc) → IsSpellable doc → spells (spell doc) doc []
+spelled doc is = document_spelled 127 (value_spelled 127) 0 doc is.fits is.small

@@ -1,7 +1,7 @@
 -- What stands at the front of some bytes, read from the left, or the place of the first fault there.
 -- `place` is the place that a fault of what is read has; `end` is the place where the bytes end.
 -- proofs/Documents.antt ties it to the grammar.
-use Rattle.std.specs.Prelude.{ℕ, zero, suc, ◌≡◌, ◌+◌, ◌-◌, ◌==◌, ◌||◌, nat_lt, true, false, if◌then◌else◌, List, [], ◌∷◌, length, take, drop, slice_index, Option, None, Some, Result, Ok, Err}
+use Rattle.std.specs.Prelude.{ℕ, zero, suc, ◌≡◌, ◌<◌, ◌+◌, ◌-◌, ◌==◌, ◌||◌, nat_lt, true, false, if◌then◌else◌, List, [], ◌∷◌, length, take, drop, slice_index, Bool, Option, None, Some, Result, Ok, Err}
 use Rattle.std.specs.Int.{w32, w64, cast_signed}
 use Rattle.std.specs.List.{position}
 use Rattle.std.specs.Str.{is_utf8}
@@ -9,8 +9,10 @@ use Rattle.byteorder.specs.Endian.{little_number}
 use Rattle.bson_values.specs.declared.pairs.Pair.{Pair}
 use Rattle.bson_values.specs.declared.value.Value.{Value}
 use Rattle.bson_values.specs.declared.value.Value.TheVariants as value
+use Rattle.bson_wire.specs.declared.foreign.Foreign.{Foreign}
 use Rattle.bson_wire.specs.declared.refused.ReadRefused.{ReadRefused}
 use Rattle.bson_wire.specs.declared.refused.ReadRefused.TheVariants.{Malformed, NoMemory}
+use Rattle.bson_wire.specs.Grammar.{Element, kept, foreigns, values}
 
 -- the fault is at that place, unless memory ran out
 abbrev pub Fails : {Y : Type 0} → ReadRefused → Result Y ℕ → Type 0
@@ -61,8 +63,12 @@ unfoldable pub name_at : ℕ → List ℕ → Result (List ℕ × List ℕ) ℕ
 name_at place bytes = nul_at place (position (λ byte. byte == 0) bytes) >>= λ len. text_of place (take len bytes) >>= λ name. Ok (name, drop (len + 1) bytes)
 
 -- a length, as many bytes that end with 00, and UTF-8 in them
+unfoldable pub text_at : ℕ → List ℕ → Result (List ℕ × List ℕ) ℕ
+text_at place bytes = length_at place 1 bytes >>= λ n. part_at place n.0 n.1 >>= λ part. ended_at place part.0 >>= λ content. text_of place content >>= λ text. Ok (text, part.1)
+
+-- the same as a value
 unfoldable pub string_at : ℕ → List ℕ → Result (Value × List ℕ) ℕ
-string_at place bytes = length_at place 1 bytes >>= λ n. part_at place n.0 n.1 >>= λ part. ended_at place part.0 >>= λ content. text_of place content >>= λ text. Ok (value.Str text, part.1)
+string_at place bytes = text_at place bytes >>= λ text. Ok (value.Str text.0, text.1)
 
 -- a length, a byte, and as many bytes
 unfoldable pub binary_at : ℕ → List ℕ → Result (Value × List ℕ) ℕ
@@ -112,44 +118,106 @@ scalar_at place code bytes =
     else if code == 18 then int64_at place bytes
     else Err place
 
-module _ (document : ℕ → List ℕ → Result (List (Pair Value) × List ℕ) ℕ) (array : ℕ → List ℕ → Result (List Value × List ℕ) ℕ) where
-  -- a document, an array, or a value that holds none, by the type byte
-  unfoldable pub value_at : ℕ → ℕ → ℕ → List ℕ → Result (Value × List ℕ) ℕ
+-- the type bytes of the foreign types
+unfoldable pub is_foreign : ℕ → Bool
+is_foreign code = code == 1 || code == 6 || code == 12 || code == 13 || code == 14 || code == 15 || code == 19 || code == 127 || code == 255
+
+-- the bytes after the first `len`
+unfoldable pub past_at : ℕ → ℕ → List ℕ → Result (List ℕ) ℕ
+past_at place len bytes = part_at place len bytes >>= λ part. Ok part.1
+
+-- the bytes after a string
+unfoldable pub past_text_at : ℕ → List ℕ → Result (List ℕ) ℕ
+past_text_at place bytes = text_at place bytes >>= λ text. Ok text.1
+
+-- the bytes after a length that counts itself, at least 14, and as many bytes
+unfoldable pub past_scoped_at : ℕ → List ℕ → Result (List ℕ) ℕ
+past_scoped_at place bytes = length_at place 14 bytes >>= λ n. past_at place (n.0 - 4) n.1
+
+-- the bytes after a value of a foreign type
+unfoldable pub foreign_at : ℕ → ℕ → List ℕ → Result (List ℕ) ℕ
+foreign_at place code bytes =
+    if code == 1 then past_at place 8 bytes
+    else if code == 6 then Ok bytes
+    else if code == 12 then past_text_at place bytes >>= (λ rest. past_at place 12 rest)
+    else if code == 13 then past_text_at place bytes
+    else if code == 14 then past_text_at place bytes
+    else if code == 15 then past_scoped_at place bytes
+    else if code == 19 then past_at place 16 bytes
+    else if code == 127 then Ok bytes
+    else if code == 255 then Ok bytes
+    else Err place
+
+module _ (document : ℕ → List ℕ → Result (List (Pair Value) × List Foreign × List ℕ) ℕ) (array : ℕ → List ℕ → Result (List Value × List Foreign × List ℕ) ℕ) where
+  -- by the type byte a document, an array, a foreign value, which is passed over, or a value that holds none
+  unfoldable pub value_at : ℕ → ℕ → ℕ → List ℕ → Result (Option Value × List Foreign × List ℕ) ℕ
   value_at end place code bytes =
-      if code == 3 then document end bytes >>= (λ doc. Ok (value.Doc doc.0, doc.1))
-      else if code == 4 then array end bytes >>= (λ items. Ok (value.Arr items.0, items.1))
-      else scalar_at place code bytes
+      if code == 3 then document end bytes >>= (λ doc. Ok (Some (value.Doc doc.0), doc.1, doc.2))
+      else if code == 4 then array end bytes >>= (λ items. Ok (Some (value.Arr items.0), items.1, items.2))
+      else if is_foreign code then foreign_at place code bytes >>= (λ rest. Ok (None, record { code = code; place = place } ∷ [], rest))
+      else scalar_at place code bytes >>= λ it. Ok (Some it.0, [], it.1)
 
   -- the name and the value behind a type byte, where a fault is at the type byte
-  unfoldable pub element_at : ℕ → ℕ → List ℕ → Result (Pair Value × List ℕ) ℕ
+  unfoldable pub element_at : ℕ → ℕ → List ℕ → Result (Element × List ℕ) ℕ
   element_at end code bytes = name_at (end - (length bytes + 1)) bytes >>= λ name.
-      value_at end (end - (length bytes + 1)) code name.1 >>= λ v. Ok (record { name = name.0; value = v.0 }, v.1)
+      value_at end (end - (length bytes + 1)) code name.1 >>= λ v. Ok (record { name = name.0; value = v.0; foreign = v.1 }, v.2)
 
-  -- what is kept of each of the elements that fill the bytes; `most` bounds how many
-  unfoldable pub elements_at : {A : Type 0} → (Pair Value → A) → ℕ → ℕ → List ℕ → Result (List A) ℕ
-  elements_at keep zero end bytes = Err end
-  elements_at keep (suc most) end [] = Ok []
-  elements_at keep (suc most) end (code ∷ bytes) = element_at end code bytes >>= λ first. elements_at keep most end first.1 >>= λ others. Ok (keep first.0 ∷ others)
+  -- the elements that fill the bytes; `most` bounds how many
+  unfoldable pub elements_at : ℕ → ℕ → List ℕ → Result (List Element) ℕ
+  elements_at zero end bytes = Err end
+  elements_at (suc most) end [] = Ok []
+  elements_at (suc most) end (code ∷ bytes) = element_at end code bytes >>= λ first. elements_at most end first.1 >>= λ others. Ok (first.0 ∷ others)
 
-  -- the same of all of them
-  abbrev pub all_at : {A : Type 0} → (Pair Value → A) → ℕ → List ℕ → Result (List A) ℕ
-  all_at keep end bytes = elements_at keep (length bytes + 1) end bytes
+  -- all of them
+  abbrev pub all_at : ℕ → List ℕ → Result (List Element) ℕ
+  all_at end bytes = elements_at (length bytes + 1) end bytes
 
   -- a length, elements within it, and a 00 byte; a fault of the length or of that byte is at the length
-  unfoldable pub enclosed_at : {A : Type 0} → (Pair Value → A) → ℕ → List ℕ → Result (List A × List ℕ) ℕ
-  enclosed_at keep end bytes = length_at (end - length bytes) 5 bytes >>= λ n. part_at (end - length bytes) (n.0 - 4) n.1 >>= λ part.
-      all_at keep (end - (length part.1 + 1)) (take (length part.0 - 1) part.0) >>= λ found.
+  unfoldable pub enclosed_at : ℕ → List ℕ → Result (List Element × List ℕ) ℕ
+  enclosed_at end bytes = length_at (end - length bytes) 5 bytes >>= λ n. part_at (end - length bytes) (n.0 - 4) n.1 >>= λ part.
+      all_at (end - (length part.1 + 1)) (take (length part.0 - 1) part.0) >>= λ found.
       ended_at (end - length bytes) part.0 >>= λ inside. Ok (found, part.1)
 
--- a document, and an array, with at most so many levels of containers
+-- a document, and an array, with at most so many levels of containers, and the foreign elements in it
 unfoldable mutual
-  pub document_at : ℕ → ℕ → List ℕ → Result (List (Pair Value) × List ℕ) ℕ
+  pub document_at : ℕ → ℕ → List ℕ → Result (List (Pair Value) × List Foreign × List ℕ) ℕ
   document_at zero end bytes = Err (end - length bytes)
-  document_at (suc levels) end bytes = enclosed_at (document_at levels) (array_at levels) (λ pair. pair) end bytes
+  document_at (suc levels) end bytes = enclosed_at (document_at levels) (array_at levels) end bytes >>= λ found. Ok (kept found.0, foreigns found.0, found.1)
 
-  pub array_at : ℕ → ℕ → List ℕ → Result (List Value × List ℕ) ℕ
+  pub array_at : ℕ → ℕ → List ℕ → Result (List Value × List Foreign × List ℕ) ℕ
   array_at zero end bytes = Err (end - length bytes)
-  array_at (suc levels) end bytes = enclosed_at (document_at levels) (array_at levels) (λ pair. pair.value) end bytes
+  array_at (suc levels) end bytes = enclosed_at (document_at levels) (array_at levels) end bytes >>= λ found. Ok (values (kept found.0), foreigns found.0, found.1)
+
+-- the first of some foreign elements
+abbrev pub first : List Foreign → Option Foreign
+first [] = None
+first (it ∷ more) = Some it
+
+-- the one found before, or the one found now
+abbrev pub earlier : Option Foreign → Option Foreign → Option Foreign
+earlier None now = now
+earlier (Some it) now = Some it
+
+-- if there is one, it stands before that place
+abbrev pub Before : ℕ → Option Foreign → Type 0
+Before end None = Unit {0}
+Before end (Some it) = it.place < end
+
+-- what was read, with the first of its foreign elements alone
+abbrev pub with_first : {A : Type 0} → Result (A × List Foreign × List ℕ) ℕ → Result (A × Option Foreign × List ℕ) ℕ
+with_first found = found >>= λ it. Ok (it.0, first it.1, it.2)
+
+-- the same of an element
+abbrev pub element_told : Result (Element × List ℕ) ℕ → Result (List ℕ × Option Value × Option Foreign × List ℕ) ℕ
+element_told found = found >>= λ it. Ok (it.0.name, it.0.value, first it.0.foreign, it.1)
+
+-- the same of the elements of a document
+abbrev pub pairs_told : Result (List Element) ℕ → Result (List (Pair Value) × Option Foreign) ℕ
+pairs_told found = found >>= λ it. Ok (kept it, first (foreigns it))
+
+-- the same of the elements of an array
+abbrev pub items_told : Result (List Element) ℕ → Result (List Value × Option Foreign) ℕ
+items_told found = found >>= λ it. Ok (values (kept it), first (foreigns it))
 
 -- the place of a fault, where there is one
 abbrev pub fault_of : {A : Type 0} → Result A ℕ → Option ℕ

@@ -1,20 +1,21 @@
-ghost use Rattle.std.specs.Prelude.{◌≡◌, ◌++◌, ℕ, List, length};
+ghost use Rattle.std.specs.Prelude.{◌≡◌, ◌++◌, ℕ, List, [], length};
 ghost use Rattle.bson_values.specs.Measures.{size};
 ghost use Rattle.bson_values.specs.declared.pairs.Pair.{Pair};
 ghost use Rattle.bson_values.specs.declared.value.Value.{Value};
+ghost use Rattle.bson_wire.specs.declared.foreign.Foreign.{Foreign};
 ghost use Rattle.bson_wire.specs.Grammar.{spells};
 ghost use Rattle.bson_wire.specs.Spellable.{IsSpellable};
 ghost use Rattle.bson_wire.specs.Spelling.{spell};
 
-/// Where two spellings stand at the front of the same bytes, they are one, of one document.
+/// Where two spellings stand at the front of the same bytes, they are one, of one document with one list of foreign elements.
 pub fn no_spelling_begins_another()
-    ensures { (a b x y : List ℕ) (m n : List (Pair Value)) → spells a m → spells b n
-        → a ++ x ≡ b ++ y → (a ≡ b) × (m ≡ n) }
+    ensures { (a b x y : List ℕ) (m n : List (Pair Value)) (f g : List Foreign) → spells a m f → spells b n g
+        → a ++ x ≡ b ++ y → (a ≡ b) × (m ≡ n) × (f ≡ g) }
 {}
 
-/// What `write` appends is in the grammar, so `read` gives the document back, whatever follows.
+/// What `write` appends is in the grammar, with no foreign element, so `read` gives the document back, whatever follows.
 pub fn what_was_written_is_read_again()
-    ensures { (doc : List (Pair Value)) → IsSpellable doc → spells (spell doc) doc }
+    ensures { (doc : List (Pair Value)) → IsSpellable doc → spells (spell doc) doc [] }
 {}
 
 /// The size of a document is the length of its spelling.

@@ -1,12 +1,14 @@
 //! Wire: the bytes of documents, as BSON 1.1 says.
 #![tactic(auto)]
 
+mod foreign;
 mod laws;
 mod reader;
 mod refused;
 mod scalars;
 mod writer;
 
+pub use foreign::Foreign;
 pub use laws::{
     a_document_is_as_long_as_its_size, no_spelling_begins_another, what_was_written_is_read_again,
 };
@@ -14,6 +16,8 @@ pub use reader::{Front, read};
 pub use refused::ReadRefused;
 pub use writer::write;
 
+#[cfg(test)]
+mod passing;
 #[cfg(test)]
 mod places;
 #[cfg(test)]

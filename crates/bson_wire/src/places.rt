@@ -35,7 +35,7 @@ fn faults_of_an_element_are_at_its_type_byte(rt: HostRuntime) -> Result<(), Fail
         ("a name not UTF-8", 4, &[8, 0, 0, 0, 10, 255, 0, 0]),
         ("a short number", 4, &[11, 0, 0, 0, 16, 97, 0, 1, 0, 0, 0]),
         ("a bool 02", 4, &[9, 0, 0, 0, 8, 97, 0, 2, 0]),
-        ("the type byte 13", 4, &[8, 0, 0, 0, 0x13, 97, 0, 0]),
+        ("the type byte 14", 4, &[8, 0, 0, 0, 0x14, 97, 0, 0]),
     ];
     for (reason, place, bytes) in rows {
         match read(rt.alloc(), bytes) {

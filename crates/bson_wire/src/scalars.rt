@@ -1,5 +1,5 @@
 ghost use Rattle.std.specs.Prelude.{◌≡◌, ◌≤◌, ◌<◌, ◌==◌, ◌+◌, length, IfSome, IfOk, position};
-ghost use Rattle.bson_wire.specs.Reading.{Gives, number_at, long_at, length_at, part_at, ended_at, text_of, nul_at, name_at, string_at, binary_at, id_at, bool_at, regex_at, scalar_at};
+ghost use Rattle.bson_wire.specs.Reading.{Gives, number_at, long_at, length_at, part_at, ended_at, text_of, nul_at, name_at, text_at, string_at, binary_at, id_at, bool_at, regex_at, scalar_at};
 
 use crate::refused::ReadRefused;
 use bson_values::{Binary, Bytes, Regex, Text, Value, head, tail};
@@ -101,14 +101,24 @@ pub(crate) fn name(bytes: &[u8], place: u64) -> Result<(&str, &[u8]), ReadRefuse
     }
 }
 
-#[tactic(auto, unfolding(crate::specs::Reading::string_at))]
-fn string(alloc: Global, bytes: &[u8], place: u64) -> Result<(Value, &[u8]), ReadRefused>
-    ensures value { Gives (λ it. (it.0, it.1.now)) result (string_at place bytes.now) }
+/// The text of a string, and the bytes after it.
+#[tactic(auto, unfolding(crate::specs::Reading::text_at))]
+pub(crate) fn text_part(bytes: &[u8], place: u64) -> Result<(&str, &[u8]), ReadRefused>
+    ensures value { Gives (λ it. (it.0.now, it.1.now)) result (text_at place bytes.now) }
     ensures shorter { IfOk result (λ it. length it.1.now ≤ length bytes.now) }
 {
     let (len, rest) = length(bytes, 1, place)?;
     let (whole, rest) = part(rest, len, place)?;
     let text = text(ended(whole, place)?, place)?;
+    Ok((text, rest))
+}
+
+#[tactic(auto, unfolding(crate::specs::Reading::string_at))]
+fn string(alloc: Global, bytes: &[u8], place: u64) -> Result<(Value, &[u8]), ReadRefused>
+    ensures value { Gives (λ it. (it.0, it.1.now)) result (string_at place bytes.now) }
+    ensures shorter { IfOk result (λ it. length it.1.now ≤ length bytes.now) }
+{
+    let (text, rest) = text_part(bytes, place)?;
     Ok((Value::Str(Text::of(alloc, text)?), rest))
 }
 

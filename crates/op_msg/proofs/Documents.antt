@@ -2,15 +2,17 @@
 use Rattle.std.proofs.Common.{◌≡◌, ℕ, ◌+◌, ◌≤◌, List, length, take, drop, sym, ap, ◌∙◌, arith}
 use Rattle.std.specs.Prelude.{Option, Some, Result, Ok, Err, unwrap_or}
 use Rattle.std.proofs.lemmas.List.{take-append-drop}
+use Rattle.bson_wire.specs.declared.foreign.Foreign.{Foreign}
 use Rattle.bson_wire.specs.Grammar.{spells}
 use Rattle.bson_wire.specs.declared.refused.ReadRefused.{ReadRefused}
 use Rattle.bson_wire.specs.declared.refused.ReadRefused.TheVariants.{Malformed, NoMemory}
-use Rattle.bson_wire.specs.Reading.{document_at, fault_of, Tells}
+use Rattle.bson_wire.specs.Reading.{document_at, first, fault_of, Tells}
 use Rattle.bson_wire.proofs.Documents.{document_again}
 use Rattle.bson_wire.proofs.Places.{NotPast, document-not}
 use Rattle.bson_wire.proofs.Values.{Doc}
 use Rattle.op_msg.specs.declared.message.BadKind.TheVariants.{Document}
 use Rattle.op_msg.specs.Reading.{in_message}
+use Rattle.op_msg.specs.Stream.{moved}
 
 module _ {A : Type 0} (place : ℕ) where
   is-fault : (found : Result A ℕ) → fault_of found ≡ Some place → found ≡ Err place
@@ -33,7 +35,11 @@ pub fault-at : (place at : ℕ) (bytes : List ℕ) (refused : ReadRefused) → T
 fault-at place at bytes NoMemory tells is = absurd cc
 fault-at place at bytes (Malformed found) tells is = ap (in_message place) (is-fault found (document_at 128 (length bytes) bytes) tells) ∙ ap (λ (n : ℕ). Err (Document, place + n)) (same-place found at is)
 
-pub found-at : (place used : ℕ) (bytes rest : List ℕ) (doc : Doc) → (used ≤ length bytes) × spells (take used bytes) doc → rest ≡ drop used bytes → in_message place (document_at 128 (length bytes) bytes) ≡ Ok (doc, rest)
-found-at place used bytes rest doc found rest_is =
-    let whole = document_again (length bytes) (take used bytes) (drop used bytes) doc found.1 in
-    ap (λ (b : List ℕ). in_message place (document_at 128 (length bytes) b)) (sym (take-append-drop used bytes)) ∙ ap (in_message place) whole ∙ ap (λ (r : List ℕ). Ok (doc, r)) (sym rest_is)
+pub found-at : (place used : ℕ) (bytes rest : List ℕ) (doc : Doc) (told foreign : Option Foreign) → (used ≤ length bytes) × (all : List Foreign) × spells (take used bytes) doc all × (told ≡ first all)
+    → foreign ≡ moved place told → rest ≡ drop used bytes → in_message place (document_at 128 (length bytes) bytes) ≡ Ok (doc, foreign, rest)
+found-at place used bytes rest doc told foreign found moved_is rest_is =
+    let whole = document_again (take used bytes) (drop used bytes) doc found.1 found.2 in
+    ap (λ (b : List ℕ). in_message place (document_at 128 (length b) b)) (sym (take-append-drop used bytes)) ∙ ap (in_message place) whole
+    ∙ ap (λ (it : Option Foreign). Ok (doc, moved place it, drop used bytes)) (sym found.3)
+    ∙ ap (λ (it : Option Foreign). Ok (doc, it, drop used bytes)) (sym moved_is)
+    ∙ ap (λ (r : List ℕ). Ok (doc, foreign, r)) (sym rest_is)

@@ -8,14 +8,15 @@ use Rattle.std.proofs.lemmas.List.{take-append-drop, drop-drop, drop_more}
 use Rattle.byteorder.specs.Endian.{little_number}
 use Rattle.byteorder.specs.Numbers.{little_from-lt, little_number-reads_back}
 use Rattle.bson_wire.specs.Spelling.{int32}
+use Rattle.bson_wire.specs.declared.foreign.Foreign.{Foreign}
 use Rattle.bson_wire.specs.Grammar.{spells, spells_within}
-use Rattle.bson_wire.specs.Reading.{document_at, number_at}
+use Rattle.bson_wire.specs.Reading.{document_at, number_at, first}
 use Rattle.bson_wire.proofs.Bytes.{IsBytes, IsBytes-rest}
 use Rattle.bson_wire.proofs.Documents.{document_takes, document_again}
 use Rattle.bson_wire.proofs.Numbers.{number_takes}
 use Rattle.bson_wire.proofs.Values.{Doc}
 use Rattle.op_msg.specs.declared.message.Message.{Message}
-use Rattle.op_msg.specs.Stream.{InRange, message}
+use Rattle.op_msg.specs.Stream.{InRange, moved, message}
 use Rattle.op_msg.specs.Reading.{stated, sections_at, section_at, body_at, message_at}
 use Rattle.op_msg.proofs.Inversions.{Fixed, message-fixed}
 
@@ -26,9 +27,9 @@ append-nil (x ∷ xs) = ap (λ rest. x ∷ rest) (append-nil xs)
 -- ---- each message is read
 
 -- a document has its length and its end byte
-spelled-long : (document : List ℕ) (doc : Doc) → spells document doc → 5 ≤ length document
+spelled-long : (document : List ℕ) (doc : Doc) (foreigns : List Foreign) → spells document doc foreigns → 5 ≤ length document
 unfolding spells_within
-spelled-long document doc is = omega (arith, ap length is.whole, length-append is.inside (0 ∷ []))
+spelled-long document doc foreigns is = omega (arith, ap length is.1.whole, length-append is.1.inside (0 ∷ []))
 
 -- what is read of a message at its places
 pub record Placed (bytes : List ℕ) (size : ℕ) (request : ℤ) (document : List ℕ) : Type 0 where
@@ -76,23 +77,25 @@ placed bytes m is =
     let there = placed-four (length bytes) bits is.response_to is.high_flags is.document is.four is.two (omega (arith, is.in_range.1)) (omega (arith, ints)) in
     subst (λ r. Placed bytes (length bytes) r is.document) back (subst (λ b. Placed b (length bytes) (cast_signed w32 bits) is.document) (sym is.whole) there)
 
-section-again : (place : ℕ) (document : List ℕ) (doc : Doc) → spells document doc → section_at place (0 ∷ document) ≡ Ok (doc, [])
+section-again : (place : ℕ) (document : List ℕ) (doc : Doc) (foreigns : List Foreign) → spells document doc foreigns → section_at place (0 ∷ document) ≡ Ok (doc, moved (place + 1) (first foreigns), [])
 unfolding section_at
-section-again place document doc is =
-    let long : ltb (length (0 ∷ document)) 5 ≡ false = le-ltb _ _ (omega (arith, spelled-long document doc is)) in
-    let read : document_at 128 (length document) document ≡ Ok (doc, []) = ap (document_at 128 (length document)) (sym (append-nil document)) ∙ document_again (length document) document [] doc is in
+section-again place document doc foreigns is =
+    let long : ltb (length (0 ∷ document)) 5 ≡ false = le-ltb _ _ (omega (arith, spelled-long document doc foreigns is)) in
+    let read : document_at 128 (length document) document ≡ Ok (doc, foreigns, []) = ap (λ (b : List ℕ). document_at 128 (length b) b) (sym (append-nil document)) ∙ document_again document [] doc foreigns is in
     rw (long, read) refl
 
-body-again : (end : ℕ) (document : List ℕ) (doc : Doc) → spells document doc → body_at end (0 ∷ document) ≡ Ok doc
+body-again : (end : ℕ) (document : List ℕ) (doc : Doc) (foreigns : List Foreign) → spells document doc foreigns → end ≡ 21 + length document → body_at end (0 ∷ document) ≡ Ok (doc, moved 21 (first foreigns))
 unfolding body_at
-body-again end document doc is = rw (ne_eqb (length (0 ∷ document)) 0 (λ none. omega (arith, none)), section-again (end - length (0 ∷ document)) document doc is) refl
+body-again end document doc foreigns is at =
+    let place : end - length (0 ∷ document) + 1 ≡ 21 = omega (arith, at) in
+    rw (ne_eqb (length (0 ∷ document)) 0 (λ none. omega (arith, none)), section-again (end - length (0 ∷ document)) document doc foreigns is) (ap (λ (n : ℕ). Ok (doc, moved n (first foreigns))) place)
 
 pub message-again : (bytes : List ℕ) (m : Message) → message bytes m → message_at bytes ≡ Ok m
 unfolding message_at sections_at
 message-again bytes m is =
     let at = placed bytes m is in
     let long : ltb (length bytes) 20 ≡ false = le-ltb _ _ (omega (arith, at.long)) in
-    rw (long, at.flags, at.behind, body-again (length bytes) is.document m.body is.body, at.asked) refl
+    rw (long, at.flags, at.behind, body-again (length bytes) is.document m.body is.foreigns is.body at.long, at.asked, ← is.foreign) refl
 
 -- ---- what is read is a message
 
@@ -136,12 +139,12 @@ module _ (bytes : List ℕ) (fits : IsBytes bytes) (in_range : InRange (length b
   unfolding bits
   unsigned = ap (cast_unsigned w32) at.request ∙ of_z-to_z w32 bits below
 
-  document-spelled : spells (drop 21 bytes) m.body
+  document-spelled : spells (drop 21 bytes) m.body at.foreigns
   document-spelled =
       let behind : drop 1 (drop 20 bytes) ≡ drop 21 bytes = drop-drop 1 20 bytes in
-      let read : document_at 128 (length (drop 1 (drop 20 bytes))) (drop 21 bytes) ≡ Ok (m.body, []) = subst (λ b. document_at 128 (length (drop 1 (drop 20 bytes))) b ≡ Ok (m.body, [])) behind at.body in
-      let taken = document_takes (length (drop 1 (drop 20 bytes))) (drop 21 bytes) (m.body, []) (bytes-behind 21 bytes fits) read in
-      subst (λ b. spells b m.body) (sym (taken.1 ∙ append-nil taken.0)) taken.2
+      let read : document_at 128 (length (drop 21 bytes)) (drop 21 bytes) ≡ Ok (m.body, at.foreigns, []) = subst (λ b. document_at 128 (length b) b ≡ Ok (m.body, at.foreigns, [])) behind at.body in
+      let taken = document_takes (drop 21 bytes) (m.body, at.foreigns, []) (bytes-behind 21 bytes fits) read in
+      subst (λ b. spells b m.body at.foreigns) (sym (taken.1 ∙ append-nil taken.0)) taken.2
 
   whole-cut : bytes ≡ int32 (length bytes) ++ int32 bits ++ take 4 (drop 8 bytes) ++ int32 2013 ++ (0 ∷ 0 ∷ []) ++ take 2 (drop 18 bytes) ++ 0 ∷ drop 21 bytes
   unfolding stated bits
@@ -166,10 +169,12 @@ module _ (bytes : List ℕ) (fits : IsBytes bytes) (in_range : InRange (length b
     response_to = take 4 (drop 8 bytes);
     high_flags = take 2 (drop 18 bytes);
     document = drop 21 bytes;
+    foreigns = at.foreigns;
     in_range = in_range;
     request = subst (λ r. FitsSigned w32 r) (sym at.request) (omega (arith, ints));
     four = omega (arith, at.long, length-take 4 (drop 8 bytes), length-drop 8 bytes);
     two = omega (arith, at.long, length-take 2 (drop 18 bytes), length-drop 18 bytes);
     whole = whole-cut ∙ ap (λ b. int32 (length bytes) ++ int32 b ++ take 4 (drop 8 bytes) ++ int32 2013 ++ (0 ∷ 0 ∷ []) ++ take 2 (drop 18 bytes) ++ 0 ∷ drop 21 bytes) (sym unsigned);
     body = document-spelled;
+    foreign = at.foreign;
   }

@@ -4,7 +4,9 @@ use Rattle.std.specs.Int.{w32, cast_signed}
 use Rattle.byteorder.specs.Endian.{little_number}
 use Rattle.bson_values.specs.declared.pairs.Pair.{Pair}
 use Rattle.bson_values.specs.declared.value.Value.{Value}
-use Rattle.bson_wire.specs.Reading.{document_at}
+use Rattle.bson_wire.specs.declared.foreign.Foreign.{Foreign}
+use Rattle.bson_wire.specs.Reading.{document_at, first}
+use Rattle.op_msg.specs.Stream.{moved}
 use Rattle.op_msg.specs.declared.message.Message.{Message}
 use Rattle.op_msg.specs.declared.message.BadKind.{BadKind}
 use Rattle.op_msg.specs.declared.message.BadKind.TheVariants.{Length, OpCode, Flags, Checksum, Section, Body, Document}
@@ -39,38 +41,42 @@ sections_at bytes =
     else if little_number 2 (drop 16 bytes) == 1 then Err (Checksum, 16)
     else Ok (drop 20 bytes)
 
--- a fault of a document that stands at this place
-abbrev pub in_message : {A : Type 0} → ℕ → Result A ℕ → Result A Fault
-in_message place (Ok found) = Ok found
+-- a document, and the first foreign element in it
+abbrev pub Content : Type 0
+Content = List (Pair Value) × Option Foreign
+
+-- a document that was read at this place, and its first foreign element or its fault, with places of the message
+abbrev pub in_message : ℕ → Result (List (Pair Value) × List Foreign × List ℕ) ℕ → Result (List (Pair Value) × Option Foreign × List ℕ) Fault
+in_message place (Ok found) = Ok (found.0, moved place (first found.1), found.2)
 in_message place (Err at) = Err (Document, place + at)
 
 -- a section of kind 0 at that place: its document, and the bytes behind it
-unfoldable pub section_at : ℕ → List ℕ → Result (List (Pair Value) × List ℕ) Fault
+unfoldable pub section_at : ℕ → List ℕ → Result (List (Pair Value) × Option Foreign × List ℕ) Fault
 section_at place bytes =
     if slice_index bytes 0 == 0
     then if nat_lt (length bytes) 5 then Err (Section, place) else in_message (place + 1) (document_at 128 (length (drop 1 bytes)) (drop 1 bytes))
     else Err (Section, place)
 
 -- behind the body nothing stands: another section of its kind is a second body
-abbrev pub second_at : ℕ → Result (List (Pair Value) × List ℕ) Fault → Result (List (Pair Value)) Fault
+abbrev pub second_at : ℕ → Result (List (Pair Value) × Option Foreign × List ℕ) Fault → Result Content Fault
 second_at place (Ok found) = Err (Body, place)
 second_at place (Err fault) = Err fault
 
-abbrev pub alone_at : ℕ → Result (List (Pair Value) × List ℕ) Fault → Result (List (Pair Value)) Fault
-alone_at end (Ok (body, rest)) = if length rest == 0 then Ok body else second_at (end - length rest) (section_at (end - length rest) rest)
+abbrev pub alone_at : ℕ → Result (List (Pair Value) × Option Foreign × List ℕ) Fault → Result Content Fault
+alone_at end (Ok (body, foreign, rest)) = if length rest == 0 then Ok (body, foreign) else second_at (end - length rest) (section_at (end - length rest) rest)
 alone_at end (Err fault) = Err fault
 
 -- the body among the sections, which end at `end`
-unfoldable pub body_at : ℕ → List ℕ → Result (List (Pair Value)) Fault
+unfoldable pub body_at : ℕ → List ℕ → Result Content Fault
 body_at end bytes = if length bytes == 0 then Err (Body, end) else alone_at end (section_at (end - length bytes) bytes)
 
 -- the body of a whole message
-abbrev pub body_behind : ℕ → Result (List ℕ) Fault → Result (List (Pair Value)) Fault
+abbrev pub body_behind : ℕ → Result (List ℕ) Fault → Result Content Fault
 body_behind end (Ok sections) = body_at end sections
 body_behind end (Err fault) = Err fault
 
-abbrev pub with_request : ℕ → Result (List (Pair Value)) Fault → Result Message Fault
-with_request bits (Ok body) = Ok (record { request = cast_signed w32 bits; body = body })
+abbrev pub with_request : ℕ → Result Content Fault → Result Message Fault
+with_request bits (Ok (body, foreign)) = Ok (record { request = cast_signed w32 bits; body = body; foreign = foreign })
 with_request bits (Err fault) = Err fault
 
 -- the message that all these bytes are

@@ -1,4 +1,5 @@
 use bson_values::Document;
+use bson_wire::Foreign;
 
 /// A request: OP_MSG with one body.
 #[derive(Debug, Drop)]
@@ -7,6 +8,8 @@ pub struct Message {
     pub request: i32,
     /// The document of the section of kind 0.
     pub body: Document,
+    /// The first foreign element of the body, with its place counted from the front of the message. It is not in `body`.
+    pub foreign: Option<Foreign>,
 }
 
 /// What is wrong with the bytes of a message.

@@ -1,11 +1,12 @@
 ghost use Rattle.std.specs.Prelude.{◌≡◌, ◌≤◌, ◌<◌, ◌+◌, length, IfOk};
-ghost use Rattle.bson_wire.specs.Reading.{document_at};
+ghost use Rattle.bson_wire.specs.Reading.{Before, document_at};
+ghost use Rattle.op_msg.specs.Stream.{moved};
 ghost use Rattle.op_msg.specs.Reading.{in_message, sections_at, section_at, body_at, message_at};
 ghost use Rattle.op_msg.specs.Front.{Takes, Gives};
 
 use crate::message::{BadKind, Message, OP_MSG, Taken};
 use bson_values::{Document, head, tail};
-use bson_wire::{ReadRefused, read};
+use bson_wire::{Foreign, ReadRefused, read};
 use byteorder::{ByteOrder, LittleEndian};
 use std::alloc::Global;
 
@@ -49,15 +50,37 @@ fn sections(whole: &[u8]) -> Result<&[u8], Refused>
     Ok(tail(whole, 20))
 }
 
-/// The document at the front of some bytes of a message, which begin at `place`, and the bytes behind it.
-fn document(alloc: Global, bytes: &[u8], place: u64) -> Result<(Document, &[u8]), Refused>
+/// A foreign element of a document that begins at `place`, with its place in the message.
+fn moved(foreign: Option<Foreign>, place: u64) -> Option<Foreign>
+    requires within { place ≤ 48000000 }
+    requires near { Before 48000000 foreign }
+    ensures { result ≡ moved place foreign }
+{
+    match foreign {
+        Some(it) => Some(Foreign {
+            code: it.code,
+            place: place + it.place,
+        }),
+        None => None,
+    }
+}
+
+/// The document at the front of some bytes of a message, which begin at `place`, its first foreign element, and the bytes behind it.
+fn document(
+    alloc: Global,
+    bytes: &[u8],
+    place: u64,
+) -> Result<(Document, Option<Foreign>, &[u8]), Refused>
     requires { place + length bytes.now ≤ 48000000 }
-    ensures value { Gives (λ it. (it.0, it.1.now)) result
+    ensures value { Gives (λ it. (it.0, it.1, it.2.now)) result
         (in_message place (document_at 128 (length bytes.now) bytes.now)) }
-    ensures shorter { IfOk result (λ it. length it.1.now ≤ length bytes.now) }
+    ensures shorter { IfOk result (λ it. length it.2.now ≤ length bytes.now) }
 {
     match read(alloc, bytes) {
-        Ok(front) => Ok((front.doc, tail(bytes, front.used as usize))),
+        Ok(front) => {
+            let foreign = moved(front.foreign, place);
+            Ok((front.doc, foreign, tail(bytes, front.used as usize)))
+        }
         Err(ReadRefused::Malformed(at)) => Err(Refused::Bad {
             kind: BadKind::Document,
             place: place + at,
@@ -66,13 +89,17 @@ fn document(alloc: Global, bytes: &[u8], place: u64) -> Result<(Document, &[u8])
     }
 }
 
-/// The document of a section of kind 0, whose kind byte stands at `place`, and the bytes behind it.
+/// The document of a section of kind 0, whose kind byte stands at `place`, its first foreign element, and the bytes behind it.
 #[tactic(auto, unfolding(crate::specs::Reading::section_at))]
-fn section(alloc: Global, bytes: &[u8], place: u64) -> Result<(Document, &[u8]), Refused>
+fn section(
+    alloc: Global,
+    bytes: &[u8],
+    place: u64,
+) -> Result<(Document, Option<Foreign>, &[u8]), Refused>
     requires some { 0 < length bytes.now }
     requires near { place + length bytes.now ≤ 48000000 }
-    ensures value { Gives (λ it. (it.0, it.1.now)) result (section_at place bytes.now) }
-    ensures shorter { IfOk result (λ it. length it.1.now ≤ length bytes.now) }
+    ensures value { Gives (λ it. (it.0, it.1, it.2.now)) result (section_at place bytes.now) }
+    ensures shorter { IfOk result (λ it. length it.2.now ≤ length bytes.now) }
 {
     if bytes[0] != 0 {
         return Err(Refused::Bad {
@@ -89,12 +116,12 @@ fn section(alloc: Global, bytes: &[u8], place: u64) -> Result<(Document, &[u8]),
     document(alloc, tail(bytes, 1), place + 1)
 }
 
-/// The body among the sections, which end at `end`.
+/// The body among the sections, which end at `end`, and its first foreign element.
 #[tactic(auto, unfolding(crate::specs::Reading::body_at))]
-fn body(alloc: Global, sections: &[u8], end: u64) -> Result<Document, Refused>
+fn body(alloc: Global, sections: &[u8], end: u64) -> Result<(Document, Option<Foreign>), Refused>
     requires within { length sections.now ≤ end }
     requires near { end ≤ 48000000 }
-    ensures { Gives (λ it. it) result (body_at end sections.now) }
+    ensures { Gives (λ it. (it.0, it.1)) result (body_at end sections.now) }
 {
     if sections.len() == 0 {
         return Err(Refused::Bad {
@@ -102,9 +129,9 @@ fn body(alloc: Global, sections: &[u8], end: u64) -> Result<Document, Refused>
             place: end,
         });
     }
-    let (doc, rest) = section(alloc, sections, end - sections.len() as u64)?;
+    let (doc, foreign, rest) = section(alloc, sections, end - sections.len() as u64)?;
     if rest.len() == 0 {
-        return Ok(doc);
+        return Ok((doc, foreign));
     }
     let place = end - rest.len() as u64;
     match section(alloc, rest, place) {
@@ -124,10 +151,11 @@ fn message(alloc: Global, whole: &[u8]) -> Result<Message, Refused>
     ensures { Gives (λ it. it) result (message_at whole.now) }
 {
     let sections = sections(whole)?;
-    let body = body(alloc, sections, whole.len() as u64)?;
+    let (body, foreign) = body(alloc, sections, whole.len() as u64)?;
     Ok(Message {
         request: LittleEndian::read_i32(tail(whole, 4)),
         body,
+        foreign,
     })
 }
 

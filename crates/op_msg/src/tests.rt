@@ -1,5 +1,6 @@
 use crate::{BadKind, Taken, put_reply, take};
 use bson_values::{Bytes, Document, NoMemory, Text, Value};
+use bson_wire::Foreign;
 use std::alloc::Global;
 use std::test::Fail;
 
@@ -35,6 +36,18 @@ const BOOL_02: [u8; 30] = [
 /// `{}` with the flag of bit 31, which may be ignored.
 const HIGH_FLAG: [u8; 26] = [
     0x1a, 0, 0, 0, 1, 0, 0, 0, 0, 0, 0, 0, 0xdd, 7, 0, 0, 0, 0, 0, 0x80, 0, 5, 0, 0, 0, 0,
+];
+
+/// `{x: maxKey, b: 7, c: [undefined]}`.
+const MAX_KEY: [u8; 47] = [
+    0x2f, 0, 0, 0, 1, 0, 0, 0, 0, 0, 0, 0, 0xdd, 7, 0, 0, 0, 0, 0, 0, 0, 0x1a, 0, 0, 0, 0x7f, 0x78,
+    0, 0x10, 0x62, 0, 7, 0, 0, 0, 4, 0x63, 0, 8, 0, 0, 0, 6, 0x30, 0, 0, 0,
+];
+
+/// `{b: 7, c: [undefined]}`.
+const UNDEFINED: [u8; 44] = [
+    0x2c, 0, 0, 0, 1, 0, 0, 0, 0, 0, 0, 0, 0xdd, 7, 0, 0, 0, 0, 0, 0, 0, 0x17, 0, 0, 0, 0x10, 0x62,
+    0, 7, 0, 0, 0, 4, 0x63, 0, 8, 0, 0, 0, 6, 0x30, 0, 0, 0,
 ];
 
 #[test]
@@ -131,6 +144,31 @@ fn a_message_is_taken_when_it_is_whole(rt: HostRuntime) -> Result<(), Fail> {
         panic!(rt; "no message with a high flag");
     };
     assert_eq!(rt; (message.body.len(), used), (0, 26));
+    Ok(())
+}
+
+#[test]
+fn the_first_foreign_element_is_told_by_its_place_in_the_message(
+    rt: HostRuntime,
+) -> Result<(), Fail> {
+    let rows: [(&[u8], Option<Foreign>); 3] = [
+        (
+            &MAX_KEY,
+            Some(Foreign {
+                code: 0x7f,
+                place: 25,
+            }),
+        ),
+        (&UNDEFINED, Some(Foreign { code: 6, place: 39 })),
+        (&PING, None),
+    ];
+    for (bytes, foreign) in rows {
+        let Taken::Whole { message, used } = take(rt.alloc(), bytes) else {
+            panic!(rt; "no message");
+        };
+        assert_eq!(rt; message.foreign, foreign);
+        assert_eq!(rt; used, bytes.len() as u64);
+    }
     Ok(())
 }
 

@@ -1,6 +1,7 @@
-use Rattle.std.proofs.Common.{◌≡◌, ◌+◌, ◌*◌, ◌<◌, ◌≤◌, length, ℕ}
-use Rattle.bson_wire.specs.Reading.{document_at, array_at, elements_at, all_at}
-use Rattle.bson_wire.proofs.Elements.{behind}
+use Rattle.std.proofs.Common.{◌+◌, ◌*◌, [], length}
+use Rattle.bson_wire.specs.Grammar.{pair_of, kept, values}
+use Rattle.bson_wire.specs.Reading.{document_at, array_at, Before}
+use Rattle.bson_wire.proofs.Elements.{Goes, kept-more, items-more}
 use Rattle.bson_wire.proofs.reader.+reader.Given as goal
 
 -- a container reads its inside with a level less; within it go elements, then an element, then its value
@@ -24,15 +25,13 @@ decreases-items l = 4 * l.levels + 3
 
 -- what was read so far and what stands in the rest are all elements
 abbrev pub invariant-elements-loop-rest : goal.invariant-elements-loop-rest
-invariant-elements-loop-rest l = (more : ℕ) × (length l.rest < more) × (length l.rest ≤ length l.bytes)
-    × (behind l.doc (elements_at (document_at l.levels) (array_at l.levels) (λ pair. pair) more l.end l.rest) ≡ all_at (document_at l.levels) (array_at l.levels) (λ pair. pair) l.end l.bytes)
+invariant-elements-loop-rest l = Goes (document_at l.levels) (array_at l.levels) l.end kept pair_of kept-more l.bytes l.rest l.doc l.foreign × Before l.end l.foreign
 
 abbrev pub decreases-elements-loop-rest : goal.decreases-elements-loop-rest
 decreases-elements-loop-rest l = length l.rest
 
 abbrev pub invariant-items-loop-rest : goal.invariant-items-loop-rest
-invariant-items-loop-rest l = (more : ℕ) × (length l.rest < more) × (length l.rest ≤ length l.bytes)
-    × (behind l.items (elements_at (document_at l.levels) (array_at l.levels) (λ pair. pair.value) more l.end l.rest) ≡ all_at (document_at l.levels) (array_at l.levels) (λ pair. pair.value) l.end l.bytes)
+invariant-items-loop-rest l = Goes (document_at l.levels) (array_at l.levels) l.end (λ elements. values (kept elements)) (λ name value. values (pair_of [] value)) items-more l.bytes l.rest l.items l.foreign × Before l.end l.foreign
 
 abbrev pub decreases-items-loop-rest : goal.decreases-items-loop-rest
 decreases-items-loop-rest l = length l.rest

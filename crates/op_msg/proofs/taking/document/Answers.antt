@@ -6,7 +6,7 @@ pub overflow_add-result : goal.overflow_add-result
 overflow_add-result c = omega (arith, c.requires, fault-near _ _ _ c.in-Err-Malformed.ensures.place c.in-Err-Malformed.field-0-is)
 
 pub returns-in-Ok-clause-value : goal.returns-in-Ok-clause-value
-returns-in-Ok-clause-value c = found-at _ _ _ _ _ c.in-Ok.ensures.found c.tail.ensures
+returns-in-Ok-clause-value c = found-at _ _ _ _ _ _ _ c.in-Ok.ensures.found c.moved-foreign.ensures c.tail.ensures
 
 pub returns-in-Err-Malformed-clause-value : goal.returns-in-Err-Malformed-clause-value
 returns-in-Err-Malformed-clause-value c = fault-at _ _ _ _ c.in-Err-Malformed.ensures.place c.in-Err-Malformed.field-0-is

@@ -8,7 +8,9 @@ mod measures;
 mod memory;
 mod pairs;
 mod pieces;
+mod room;
 mod space;
+mod storing;
 mod text;
 mod value;
 
@@ -17,9 +19,13 @@ pub use list::List;
 pub use memory::NoMemory;
 pub use pairs::{Pair, Pairs};
 pub use pieces::{head, tail};
+pub use room::Room;
 pub use space::Space;
+pub use storing::{MOST_BYTES, MOST_LEVELS, Unstorable, storable};
 pub use text::Text;
 pub use value::{Binary, Document, Regex, Value};
 
+#[cfg(test)]
+mod refusals;
 #[cfg(test)]
 mod tests;

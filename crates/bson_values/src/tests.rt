@@ -1,4 +1,4 @@
-use crate::{Binary, Bytes, Document, List, NoMemory, Regex, Space, Text, Value};
+use crate::{Binary, Bytes, Document, List, NoMemory, Regex, Room, Space, Text, Value};
 use std::alloc::Global;
 use std::test::Fail;
 
@@ -138,5 +138,19 @@ fn depths_count_documents_and_arrays(rt: HostRuntime) -> Result<(), Fail> {
     items.push(Value::Doc(empty)).map_err(|_| NoMemory)?;
     assert_eq!(rt; holding(rt.alloc(), Value::Arr(items))?.depth(), 3);
     assert_eq!(rt; holding(rt.alloc(), Value::Bool(true))?.depth(), 1);
+    Ok(())
+}
+
+#[test]
+fn a_room_with_ample_memory_is_filled(rt: HostRuntime) -> Result<(), Fail> {
+    let mut bytes = Room::new(rt.alloc(), 4)?;
+    bytes.push_in(1);
+    bytes.extend_in(&[2, 3, 4]);
+    assert_eq!(rt; bytes.items(), [1, 2, 3, 4].as_slice());
+    assert_eq!(rt; bytes.bytes().as_slice(), [1, 2, 3, 4].as_slice());
+    let mut names = Room::new(rt.alloc(), 1)?;
+    names.push_in(text(rt.alloc(), "n")?);
+    let mut names = names.list();
+    assert!(rt; matches!(names.pop(), Some(name) if name.as_str() == "n"));
     Ok(())
 }

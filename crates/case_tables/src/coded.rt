@@ -2,9 +2,9 @@ use crate::kinds::*;
 
 /// A kind of refusal, and the error code that is told with it.
 #[derive(Clone, Copy, Debug)]
-pub struct Coded {
-    pub kind: Kind,
-    pub code: u32,
+pub(crate) struct Coded {
+    pub(crate) kind: Kind,
+    pub(crate) code: u32,
 }
 
 /// Rows `kind => code`.
@@ -15,7 +15,7 @@ macro_rules! coded {
 }
 
 /// The error code of each kind: MongoDB's, and from 20001 on this server's own.
-pub const CODED: [Coded; 34] = coded! {
+pub(crate) const CODED: [Coded; 34] = coded! {
     INTERNAL_ERROR => 1,
     UNSUPPORTED_TYPE => 2,
     UNKNOWN_OPERATOR => 2,

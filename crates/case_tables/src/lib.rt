@@ -9,7 +9,6 @@ mod refusals;
 mod tables;
 
 pub use case_table::{Case, CaseTable};
-pub use coded::{CODED, Coded};
 pub use kinds::{
     BAD_ID, BAD_OPERAND, BAD_PATH, BAD_PROJECTION, BAD_UPDATE, CURSOR_NOT_FOUND,
     DOCUMENT_TOO_LARGE, DUPLICATE_KEY, FIELD_GIVEN_TWICE, FIELD_MISSING, FIELD_OUT_OF_RANGE,

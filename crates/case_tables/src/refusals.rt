@@ -1,4 +1,4 @@
-ghost use Rattle.std.specs.Prelude.{◌≡◌, [], true};
+ghost use Rattle.std.specs.Prelude.{◌≡◌, ◌≤◌, [], true};
 ghost use Rattle.case_tables.specs.Cases.{columns};
 ghost use Rattle.case_tables.specs.Refusals.{beside, code_of, code_name_of, coded, text_of};
 
@@ -38,9 +38,10 @@ fn name_in(rows: &[Case], code: u32) -> &'static str
 }
 
 /// The error code of a kind; 0 for a number that is no kind.
-#[tactic(auto, unfolding(crate::specs::Refusals::code_of))]
+#[tactic(auto, using(crate::proofs::Bounds::code_small), unfolding(crate::specs::Refusals::code_of))]
 pub fn code_of(kind: Kind) -> u32
-    ensures { result ≡ code_of kind }
+    ensures value { result ≡ code_of kind }
+    ensures small { result ≤ 20003 }
 {
     code_in(&CODED, kind)
 }

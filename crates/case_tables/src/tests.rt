@@ -1,34 +1,16 @@
 use crate::{
     CODES, Case, CaseTable, DUPLICATE_KEY, KINDS, NOT_SUPPORTED, TYPES, code_name_of, code_of,
-    tables_are_distinct, text_of,
+    text_of,
 };
 use std::test::Fail;
 
 #[test]
-fn the_tables_are_distinct(rt: HostRuntime) -> Result<(), Fail> {
-    assert!(rt; tables_are_distinct());
-    Ok(())
-}
-
-#[test]
 fn types_are_found_by_code_and_by_name(rt: HostRuntime) -> Result<(), Fail> {
-    for (code, name) in [
-        (5, "binData"),
-        (16, "int"),
-        (255, "minKey"),
-        (127, "maxKey"),
-    ] {
-        let Some(by_code) = TYPES.by_code(code) else {
-            panic!(rt; "no type {code}");
-        };
-        assert_eq!(rt; by_code.name, name);
-        let Some(by_name) = TYPES.by_name(name) else {
-            panic!(rt; "no type {name}");
-        };
-        assert_eq!(rt; by_name.code, code);
-    }
-    assert!(rt; TYPES.by_code(20).is_none());
-    assert!(rt; TYPES.by_name("Double").is_none());
+    let types = TYPES;
+    assert!(rt; matches!(types.by_code(255), Some(Case { name: "minKey", .. })));
+    assert!(rt; matches!(types.by_name("binData"), Some(Case { code: 5, .. })));
+    assert!(rt; types.by_code(20).is_none());
+    assert!(rt; types.by_name("Double").is_none());
     Ok(())
 }
 

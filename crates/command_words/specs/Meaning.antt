@@ -5,6 +5,7 @@ use Rattle.bson_values.specs.declared.space.Space.{Space}
 use Rattle.bson_values.specs.declared.value.Value.{Value}
 use Rattle.bson_values.specs.declared.value.Value.TheViews.{out-Value}
 use Rattle.bson_values.specs.declared.value.Value.TheOpen.{Value-F}
+use Rattle.doc_model.specs.declared.op.Op.{Op}
 use Rattle.doc_model.specs.declared.op.Op.TheVariants as op
 use Rattle.op_msg.specs.declared.message.Message.{Message}
 use Rattle.command_words.specs.declared.command.Command.{Command}
@@ -61,10 +62,13 @@ command_of m = command_in m.body
 abbrev pub IsNamed : Space → Type 0
 IsNamed space = (is_database_name space.db ≡ true) × (is_collection_name space.db space.coll ≡ true)
 
--- the spaces of its operations are named so
+-- the space of an operation is named so
+abbrev pub OpIsNamed : Op → Type 0
+OpIsNamed (op.Insert space doc) = IsNamed space
+OpIsNamed (op.Find space) = IsNamed space
+
+-- the spaces of a command's operations are named so
 abbrev pub AreNamed : Command → Type 0
 AreNamed command.Ping = Unit {0}
-AreNamed (command.Insert (op.Insert space doc)) = IsNamed space
-AreNamed (command.Insert (op.Find space)) = IsNamed space
-AreNamed (command.Find (op.Insert space doc)) = IsNamed space
-AreNamed (command.Find (op.Find space)) = IsNamed space
+AreNamed (command.Insert op) = OpIsNamed op
+AreNamed (command.Find op) = OpIsNamed op

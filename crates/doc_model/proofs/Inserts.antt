@@ -127,3 +127,18 @@ insert-came reply space doc s t is = came reply space doc s t (collection_of spa
 -- one that is replied `Inserted` went in
 pub insert-landed : (space : Space) (doc : Doc) (s t : Store) → record { reply = Inserted; store = t } ≡ inserted space doc s (collection_of space s.collections) → Landed space doc s t
 insert-landed space doc s t is = ⊎_elim (λ refused. let kind = refused.0.1 in absurd cc) (λ landed. landed) (insert-came Inserted space doc s t is)
+
+-- a refused insert changes nothing
+pub insert-refused : (kind : ℕ) (space : Space) (doc : Doc) (s t : Store) (found : Option Collection) → record { reply = Refused kind; store = t } ≡ inserted space doc s found → t ≡ s
+insert-refused kind space doc s t (Some c) is = cases (has_id doc c.docs) refl (are_spent 1 s) refl
+  where
+    cases : (twice : Bool) → has_id doc c.docs ≡ twice → (spent : Bool) → are_spent 1 s ≡ spent → t ≡ s
+    cases true there spent q = ap (λ (m : Meant). m.store) (rw there at is)
+    cases false there true q = ap (λ (m : Meant). m.store) (rw q at (rw there at is))
+    cases false there false q = absurd cc (ap (λ (m : Meant). m.reply) (rw q at (rw there at is)))
+insert-refused kind space doc s t None is = cases (nat_le MOST_COLLECTIONS (length s.collections)) refl (are_spent 2 s) refl
+  where
+    cases : (full : Bool) → nat_le MOST_COLLECTIONS (length s.collections) ≡ full → (spent : Bool) → are_spent 2 s ≡ spent → t ≡ s
+    cases true full spent q = ap (λ (m : Meant). m.store) (rw full at is)
+    cases false full true q = ap (λ (m : Meant). m.store) (rw q at (rw full at is))
+    cases false full false q = absurd cc (ap (λ (m : Meant). m.reply) (rw q at (rw full at is)))

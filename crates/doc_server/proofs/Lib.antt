@@ -1,7 +1,7 @@
 pub mod Growth
+pub mod Fitting
+pub mod Keeping
 pub mod Scripts
 pub mod Conversation
 pub mod Whole
-pub mod Answering
-pub mod Replies
-pub mod Keeping
+pub mod Carrying

@@ -7,9 +7,11 @@ use Rattle.doc_server.specs.declared.why.Why.TheVariants.{Closed, Truncated, Bad
 use Rattle.op_msg.specs.Stream.{in_order, BeginsNone}
 use Rattle.op_msg.proofs.Framing.{none-empty, in_order-more}
 use Rattle.op_msg.proofs.Fronts.{short-none, fault-none, fault-more}
-use Rattle.doc_server.specs.Script.{Executed, messages, bytes_of}
-use Rattle.doc_server.specs.Talk.{Scene, Wrote, Ends, AtEnd, Talks}
-use Rattle.doc_server.specs.Program.{End, TellsAnswers, Spoke, IsCutOff, Shows, script_of, Answered, AnswersAll}
+use Rattle.doc_model.specs.Store.{Store, empty_store}
+use Rattle.doc_model.specs.Run.{run}
+use Rattle.doc_server.specs.Script.{Executed, messages, moments, ops_from, bytes_of}
+use Rattle.doc_server.specs.Talk.{Scene, Wrote, Timed, Ends, AtEnd, Talks}
+use Rattle.doc_server.specs.Program.{End, seen, TellsAnswers, TellsMoments, Spoke, Spoken, IsCutOff, Shows, Answered, AnswersAll}
 use Rattle.doc_server.proofs.Growth.{append-nil}
 
 -- what came after nothing is all
@@ -28,22 +30,30 @@ tells-answers WriteFault old new all none wrote = (wrote.0, tells-all old new (t
 tells-answers Long old new all none wrote = tells-all old new all none wrote
 tells-answers NoMemory old new all none wrote = tells-all old new all none wrote
 
-spoke : (old new : Scene) (why : Why) (commands : ℕ) → Tells old.took [] → Tells old.wrote [] → (talks : Talks old new why commands) → Spoke (record { taken = new.took; left = new.left; written = new.wrote; why = why; commands = commands }) talks.0 talks.1 talks.2
-spoke old new why commands took wrote talks = record {
-  taken = tells-all old.took new.took talks.0 took talks.3.taken;
-  order = talks.3.order;
-  written = tells-answers why old.wrote new.wrote (bytes_of talks.1) wrote talks.3.written;
-  count = talks.3.count;
-  ends = talks.4;
-}
+tells-moments : (why : Why) (old new : Option (List ℕ)) (all : List ℕ) → Tells old [] → Timed why old new all → TellsMoments why new all
+tells-moments Closed old new all none timed = tells-all old new all none timed
+tells-moments (Truncated size) old new all none timed = tells-all old new all none timed
+tells-moments (BadFrame kind place) old new all none timed = tells-all old new all none timed
+tells-moments ReadFault old new all none timed = tells-all old new all none timed
+tells-moments WriteFault old new all none timed = tells-all old new all none timed
+tells-moments Long old new all none timed = tells-all old new all none timed
+tells-moments NoMemory old new all none timed = (timed.0, tells-all old new (all ++ timed.0) none timed.1)
 
-script-messages : (ts : List Executed) → script_of (messages ts) ≡ ts
-script-messages [] = refl
-script-messages (t ∷ ts) = ap (λ us. t ∷ us) (script-messages ts)
+module _ (seat number : ℕ) (old new : Scene) (before after : Store) (why : Why) (commands : ℕ) (empty : before ≡ empty_store) (took : Tells old.took []) (wrote : Tells old.wrote []) (timed : Tells old.moments []) (talks : Talks seat number old new before after why commands) where
+  pub spoke-of : Spoke seat number (seen new after why commands) talks.0 talks.1 talks.2
+  spoke-of = record {
+    taken = tells-all old.took new.took talks.0 took talks.3.taken;
+    order = talks.3.order;
+    written = tells-answers why old.wrote new.wrote (bytes_of talks.1) wrote talks.3.written;
+    timed = tells-moments why old.moments new.moments (moments talks.1) timed talks.3.timed;
+    count = talks.3.count;
+    sound = talks.3.sound;
+    ran = subst (λ s. run s (ops_from seat number 0 talks.1) after) empty talks.3.ran;
+    ends = talks.4;
+  }
 
-length-messages : (ts : List Executed) → length (messages ts) ≡ length ts
-length-messages [] = refl
-length-messages (t ∷ ts) = omega (arith, length-messages ts)
+  pub spoken : Spoken seat number (seen new after why commands)
+  spoken = (talks.0, talks.1, talks.2, spoke-of)
 
 -- a rest that shows the end, with what is left behind it
 shown : (why : Why) (all rest left : List ℕ) → Ends why all rest → AtEnd why (Some left) → IsCutOff why ⊎ (Shows why (rest ++ left) × BeginsNone (rest ++ left))
@@ -66,25 +76,27 @@ told-whole WriteFault rest told all shows tells = absurd shows
 told-whole Long rest told all shows tells = absurd shows
 told-whole NoMemory rest told all shows tells = absurd shows
 
-answers-all : (input : Option (List ℕ)) (e : End) (all : List ℕ) (script : List Executed) (rest : List ℕ) → Shrinks input e.left all → AtEnd e.why e.left → Spoke e all script rest → AnswersAll input e
-answers-all None e all script rest came at_end spoke = tt
-answers-all (Some input) e all script rest came at_end spoke = λ left left_is.
+answers-all : (seat number : ℕ) (input : Option (List ℕ)) (e : End) (all : List ℕ) (script : List Executed) (rest : List ℕ) → Shrinks input e.link.left all → AtEnd e.why e.link.left → Spoke seat number e all script rest → AnswersAll seat number input e
+answers-all seat number None e all script rest came at_end spoke = tt
+answers-all seat number (Some input) e all script rest came at_end spoke = λ left left_is.
     let input_is : input ≡ all ++ left = subst (λ l. Shrinks (Some input) l all) left_is came in
     let order : in_order input (messages script) (rest ++ left) = subst (λ b. in_order b (messages script) (rest ++ left)) (sym input_is) (in_order-more all left rest (messages script) spoke.order) in
     elim (shown e.why all rest left spoke.ends (subst (AtEnd e.why) left_is at_end)) [
       | inl cut ↦ inl cut
       | inr found ↦
-          let answered : Answered e (messages script) (rest ++ left) = record {
+          let answered : Answered seat number e script (rest ++ left) = record {
             end = found.0;
-            count = spoke.count ∙ sym (length-messages script);
-            written = rw script-messages (told-whole e.why (rest ++ left) e.written (bytes_of script) found.0 spoke.written);
+            count = spoke.count;
+            written = told-whole e.why (rest ++ left) e.link.wrote (bytes_of script) found.0 spoke.written;
+            sound = spoke.sound;
+            ran = spoke.ran;
           } in
-          inr (messages script, rest ++ left, record { order = order; none_more = found.1 }, answered)
+          inr (script, rest ++ left, record { order = order; none_more = found.1 }, answered)
     ]
 
 -- the same of what a served link tells
-pub whole : (input : Option (List ℕ)) (old new : Scene) (why : Why) (commands : ℕ) → Tells old.took [] → Tells old.wrote [] → old.left ≡ input → Talks old new why commands → AtEnd why new.left
-    → AnswersAll input (record { taken = new.took; left = new.left; written = new.wrote; why = why; commands = commands })
-whole input old new why commands took wrote left talks at_end =
-    answers-all input (record { taken = new.took; left = new.left; written = new.wrote; why = why; commands = commands }) talks.0 talks.1 talks.2 (subst (λ told. Shrinks told new.left talks.0) left talks.3.came) at_end
-    (spoke old new why commands took wrote talks)
+pub whole : (seat number : ℕ) (input : Option (List ℕ)) (old new : Scene) (before after : Store) (why : Why) (commands : ℕ) → before ≡ empty_store → Tells old.took [] → Tells old.wrote [] → Tells old.moments [] → old.left ≡ input → (talks : Talks seat number old new before after why commands) → AtEnd why new.left
+    → AnswersAll seat number input (seen new after why commands)
+whole seat number input old new before after why commands empty took wrote timed left talks at_end =
+    answers-all seat number input (seen new after why commands) talks.0 talks.1 talks.2 (subst (λ told. Shrinks told new.left talks.0) left talks.3.came) at_end
+    (spoke-of seat number old new before after why commands empty took wrote timed talks)

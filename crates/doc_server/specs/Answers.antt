@@ -1,33 +1,41 @@
 -- What each message is answered.
-use Rattle.std.specs.Prelude.{ℕ, ℤ, pos, ◌+◌, ◌%◌, ◌^◌, Bool, false, if◌then◌else◌, List, [], ◌∷◌, codes}
-use Rattle.std.specs.Str.{bytes_eq}
+use Rattle.std.specs.Prelude.{ℕ, pos, ◌+◌, ◌%◌, ◌^◌, if◌then◌else◌, List, [], ◌∷◌, Option, None, Some}
 use Rattle.bson_values.specs.declared.pairs.Pair.{Pair}
 use Rattle.bson_values.specs.declared.value.Value.{Value}
-use Rattle.bson_values.specs.declared.value.Value.TheVariants as value
+use Rattle.case_tables.specs.declared.kinds.TheConstants.{INTERNAL_ERROR, NOT_SUPPORTED}
 use Rattle.op_msg.specs.declared.message.Message.{Message}
 use Rattle.op_msg.specs.Reply.{reply}
+use Rattle.doc_model.specs.declared.op.Op.{Op}
+use Rattle.doc_model.specs.declared.op.Op.TheVariants as op
+use Rattle.doc_model.specs.declared.op.OpReply.{OpReply}
+use Rattle.doc_model.specs.declared.op.OpReply.TheVariants.{Inserted, Selected, Refused}
+use Rattle.command_words.specs.declared.command.Command.{Command}
+use Rattle.command_words.specs.declared.command.Command.TheVariants.{Ping, Insert, Find}
+use Rattle.command_words.specs.Refusal.{refusal}
+use Rattle.command_words.specs.Meaning.{command_of}
+use Rattle.doc_server.specs.Replies.{ok_document, error_document, inserted_document, refused_document, batch_document, fit_a_batch}
 
--- {ok: 1}
-abbrev pub ok_document : List (Pair Value)
-ok_document = record { name = codes "ok"; value = value.Int (pos 1) } ∷ []
+-- what an operation's reply is told as; so far a find is refused whose documents do not go into one batch
+abbrev pub op_document : Op → OpReply → List (Pair Value)
+op_document (op.Insert space doc) Inserted = inserted_document
+op_document (op.Insert space doc) (Refused kind) = refused_document kind
+op_document (op.Find space) (Selected docs) = if fit_a_batch docs then batch_document space docs else error_document NOT_SUPPORTED
+op_document op reply = error_document INTERNAL_ERROR
 
--- {ok: 0, errmsg: .., code: .., codeName: ..}
-abbrev pub error_document : ℤ → List ℕ → List ℕ → List (Pair Value)
-error_document code code_name sentence =
-    record { name = codes "ok"; value = value.Int (pos 0) }
-    ∷ record { name = codes "errmsg"; value = value.Str sentence }
-    ∷ record { name = codes "code"; value = value.Int code }
-    ∷ record { name = codes "codeName"; value = value.Str code_name }
-    ∷ []
+-- what a command is answered, whose operations are replied so
+abbrev pub command_document : Command → List OpReply → List (Pair Value)
+command_document (Insert op) (reply ∷ []) = op_document op reply
+command_document (Find op) (reply ∷ []) = op_document op reply
+command_document command replies = ok_document
 
--- the first name of a body names its command
-abbrev pub is_ping : List (Pair Value) → Bool
-is_ping [] = false
-is_ping (command ∷ fields) = bytes_eq command.name (codes "ping")
+-- a refused message is answered with its refusal
+abbrev pub document_by : Option ℕ → Command → List OpReply → List (Pair Value)
+document_by (Some kind) command replies = error_document kind
+document_by None command replies = command_document command replies
 
-abbrev pub document_of : List (Pair Value) → List (Pair Value)
-document_of body = if is_ping body then ok_document else error_document (pos 59) (codes "CommandNotFound") (codes "no such command")
+abbrev pub document_of : Message → List OpReply → List (Pair Value)
+document_of m replies = document_by (refusal m) (command_of m) replies
 
 -- the reply to a message that comes after k replies
-unfoldable pub answer : ℕ → Message → List ℕ
-answer k m = reply (pos ((k + 1) % 2 ^ 31)) m.request (document_of m.body)
+unfoldable pub answer : ℕ → Message → List OpReply → List ℕ
+answer k m replies = reply (pos ((k + 1) % 2 ^ 31)) m.request (document_of m replies)

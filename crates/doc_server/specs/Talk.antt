@@ -1,10 +1,12 @@
--- One connection: what came, its script, what was written, and how it ended.
-use Rattle.std.specs.Prelude.{ℕ, ◌≡◌, ◌≢◌, ◌<◌, ◌^◌, List, [], length, take, Option, Some}
+-- One connection: what came, its script, what was written, what it made of the store, and how it ended.
+use Rattle.std.specs.Prelude.{ℕ, ◌≡◌, ◌≢◌, ◌<◌, ◌^◌, List, [], ◌++◌, length, take, Option, Some}
 use Rattle.outside.specs.Told.{Grows, Shrinks, Tells}
 use Rattle.outside.specs.Causes.{Rose}
 use Rattle.op_msg.specs.Stream.{in_order}
 use Rattle.op_msg.specs.Reading.{short, fault}
-use Rattle.doc_server.specs.Script.{Executed, messages, bytes_of}
+use Rattle.doc_model.specs.Store.{Store}
+use Rattle.doc_model.specs.Run.{run}
+use Rattle.doc_server.specs.Script.{Executed, messages, moments, ops_from, IsSound, bytes_of}
 use Rattle.doc_server.specs.declared.why.Why.{Why}
 use Rattle.doc_server.specs.declared.why.Why.TheVariants.{Closed, Truncated, BadFrame, ReadFault, WriteFault, Long, NoMemory}
 
@@ -35,23 +37,33 @@ Faults ReadFault reads reads' writes writes' = Rose reads reads' × (writes' ≡
 Faults WriteFault reads reads' writes writes' = (reads' ≡ reads) × Rose writes writes'
 Faults why reads reads' writes writes' = (reads' ≡ reads) × (writes' ≡ writes)
 
--- what a link tells of its bytes at one moment
+-- all of their moments were given; where memory ran out, perhaps that of the message that was not executed too
+abbrev pub Timed : Why → Option (List ℕ) → Option (List ℕ) → List ℕ → Type 0
+Timed NoMemory old new all = (more : List ℕ) × Grows old new (all ++ more)
+Timed why old new all = Grows old new all
+
+-- what a link tells at one moment: its bytes, and the moments of its clock
 pub record Scene : Type 0 where
   pub took : Option (List ℕ)
   pub left : Option (List ℕ)
   pub wrote : Option (List ℕ)
+  pub moments : Option (List ℕ)
 
-abbrev pub scene : Option (List ℕ) → Option (List ℕ) → Option (List ℕ) → Scene
-scene took left wrote = record { took = took; left = left; wrote = wrote }
+abbrev pub scene : Option (List ℕ) → Option (List ℕ) → Option (List ℕ) → Option (List ℕ) → Scene
+scene took left wrote moments = record { took = took; left = left; wrote = wrote; moments = moments }
 
--- a connection, from where it began to where it stands
-pub record Talk (old new : Scene) (why : Why) (commands : ℕ) (all : List ℕ) (script : List Executed) (rest : List ℕ) : Type 0 where
+-- the connection of that seat and number, from where it and the store began to where they stand
+pub record Talk (seat number : ℕ) (old new : Scene) (before after : Store) (why : Why) (commands : ℕ) (all : List ℕ) (script : List Executed) (rest : List ℕ) : Type 0 where
   pub taken : Grows old.took new.took all
   pub came : Shrinks old.left new.left all
   pub order : in_order all (messages script) rest
   pub written : Wrote why old.wrote new.wrote (bytes_of script)
+  pub timed : Timed why old.moments new.moments (moments script)
   pub count : commands ≡ length script
+  pub sound : IsSound script
+  pub ran : run before (ops_from seat number 0 script) after
 
 -- the same, of some script that leaves a rest which shows the end
-abbrev pub Talks : Scene → Scene → Why → ℕ → Type 0
-Talks old new why commands = (all : List ℕ) × (script : List Executed) × (rest : List ℕ) × Talk old new why commands all script rest × Ends why all rest
+abbrev pub Talks : ℕ → ℕ → Scene → Scene → Store → Store → Why → ℕ → Type 0
+Talks seat number old new before after why commands =
+    (all : List ℕ) × (script : List Executed) × (rest : List ℕ) × Talk seat number old new before after why commands all script rest × Ends why all rest

@@ -3,14 +3,13 @@
 
 mod answers;
 mod laws;
-mod plain;
 mod plain_store;
 mod program;
+mod replies;
 mod serve;
 mod why;
 
 pub use laws::a_console_that_cannot_fail_has_no_fault;
-pub use plain::answers_to;
 pub use plain_store::PlainStore;
 pub use program::{Finished, ferret};
 pub use serve::{Ended, serve_link};

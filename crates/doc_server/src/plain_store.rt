@@ -8,6 +8,7 @@ ghost use Rattle.doc_model.specs.Store.{empty_store, collection_of, docs_in, doc
 ghost use Rattle.doc_model.specs.declared.op.Op.TheVariants as op;
 ghost use Rattle.doc_model.specs.Step.{step};
 ghost use Rattle.doc_server.specs.Kept.{store_of, Adds, Stands};
+ghost use Rattle.doc_server.specs.Carried.{IsInsertReply};
 
 use bson_values::{Document, List, Space, Value};
 use case_tables::{DUPLICATE_KEY, NUMBERS_SPENT, TOO_MANY_COLLECTIONS};
@@ -105,7 +106,8 @@ impl PlainStore {
 
     /// Adds a document to its collection, which is created where it is absent.
     pub fn insert(&mut self, alloc: Global, space: Space, doc: Document) -> OpReply
-        ensures { (who : Who) (now : ℕ) → step who now (op.Insert space doc) (store_of self.old) result (store_of self.new) }
+        ensures kind { IsInsertReply result }
+        ensures step { (who : Who) (now : ℕ) → step who now (op.Insert space doc) (store_of self.old) result (store_of self.new) }
     {
         match place_of(&space, &self.collections) {
             Some(place) => {
@@ -122,7 +124,8 @@ impl PlainStore {
     /// Creates a collection with its first document.
     fn create(&mut self, alloc: Global, space: Space, doc: Document) -> OpReply
         requires { collection_of space self.old.collections.items ≡ None }
-        ensures { (who : Who) (now : ℕ) → step who now (op.Insert space doc) (store_of self.old) result (store_of self.new) }
+        ensures kind { IsInsertReply result }
+        ensures step { (who : Who) (now : ℕ) → step who now (op.Insert space doc) (store_of self.old) result (store_of self.new) }
     {
         if self.collections.len() >= MOST_COLLECTIONS {
             return OpReply::Refused(TOO_MANY_COLLECTIONS);

@@ -1,7 +1,9 @@
 ghost use Rattle.std.specs.Prelude.{◌≡◌, false, map, is_some, string_bytes, IfSome, IfNone};
-ghost use Rattle.doc_server.specs.Talk.{Faults};
+ghost use Rattle.doc_server.specs.Kept.{store_of};
+ghost use Rattle.doc_server.specs.Talk.{Faults, scene};
 ghost use Rattle.doc_server.specs.Program.{is_pipe, status_of, seen, Spoken, AnswersAll};
 
+use crate::plain_store::PlainStore;
 use crate::serve::{Ended, serve_link};
 use crate::why::Why;
 use outside::World;
@@ -16,6 +18,8 @@ pub struct Finished<C> {
     pub status: u8,
     /// The console's connection, where the words asked for it.
     pub console: Option<Ended<C>>,
+    /// What the operations made of the empty store.
+    pub store: PlainStore,
 }
 
 fn status(why: &Why) -> u8
@@ -57,24 +61,29 @@ pub fn ferret<W: World>(alloc: Global, words: &[String], world: &mut W) -> Finis
     ensures faults { IfSome result.console (λ e. Faults e.why
         0 (W.Console.read_faults e.link) 0 (W.Console.write_faults e.link)) }
 
-    // What came are messages and a rest, and what was written are the answers.
-    ensures spoken { IfSome result.console (λ e. Spoken (seen (W.Console.taken e.link)
-        (W.Console.left e.link) (W.Console.written e.link) e.why e.commands)) }
+    // What came are messages and a rest, what was written are the answers, and the replies in them are a run of the
+    // one-thread store from the empty one to what is left.
+    ensures spoken { IfSome result.console (λ e. Spoken 0 0 (seen (scene (W.Console.taken e.link)
+        (W.Console.left e.link) (W.Console.written e.link) (W.Console.moments e.link))
+        (store_of result.store) e.why e.commands)) }
 
     // Every message of the whole input is answered, and the end is as its rest shows.
-    ensures whole { IfSome result.console (λ e. AnswersAll (W.input world.old)
-        (seen (W.Console.taken e.link) (W.Console.left e.link) (W.Console.written e.link)
-        e.why e.commands)) }
+    ensures whole { IfSome result.console (λ e. AnswersAll 0 0 (W.input world.old)
+        (seen (scene (W.Console.taken e.link) (W.Console.left e.link) (W.Console.written e.link)
+        (W.Console.moments e.link)) (store_of result.store) e.why e.commands)) }
 {
+    let mut store = PlainStore::new(alloc);
     if is_pipe(words) {
-        let ended = serve_link(alloc, world.console(), 0, 0);
+        let ended = serve_link(alloc, world.console(), 0, 0, &mut store);
         return Finished {
             status: status(&ended.why),
             console: Some(ended),
+            store,
         };
     }
     Finished {
         status: 1,
         console: None,
+        store,
     }
 }

@@ -1,11 +1,12 @@
 ghost use Rattle.std.specs.Prelude.{◌≡◌, ◌≤◌, ◌<◌, ◌==◌, ◌+◌, ◌^◌, ℕ, if◌then◌else◌, List, length, take, drop, IfErr, OnOk, OnErr};
 ghost use Rattle.outside.specs.Told.{Grows};
 ghost use Rattle.outside.specs.Causes.{HasCause};
-ghost use Rattle.doc_server.specs.Answers.{answer};
+ghost use Rattle.doc_server.specs.Kept.{store_of};
 ghost use Rattle.doc_server.specs.Talk.{scene, Talks, AtEnd, Faults};
 ghost use Rattle.doc_server.specs.Steps.{Fetches, Moves, Answers, end_of, fault_of};
 
 use crate::answers::answer;
+use crate::plain_store::PlainStore;
 use crate::why::Why;
 use bson_values::{head, tail};
 use op_msg::{Message, Taken, take};
@@ -52,6 +53,7 @@ impl Said {
 fn write_all<L: Link>(link: &mut L, bytes: &[u8]) -> Result<(), Failed>
     ensures taken { L.taken link.new ≡ L.taken link.old }
     ensures left { L.left link.new ≡ L.left link.old }
+    ensures moments { L.moments link.new ≡ L.moments link.old }
     ensures read_faults { L.read_faults link.new ≡ L.read_faults link.old }
     ensures ok { OnOk result (Grows (L.written link.old) (L.written link.new) bytes.now) }
     ensures err { OnErr result ((sent : ℕ)
@@ -98,8 +100,8 @@ fn fetch<L: Link>(
     requires room { 0 < length piece.old }
     requires limit { count ≤ 2 ^ 40 }
     ensures fetches { (piece : List ℕ) × Moves
-        (scene (L.taken link.old) (L.left link.old) (L.written link.old))
-        (scene (L.taken link.new) (L.left link.new) (L.written link.new)) piece
+        (scene (L.taken link.old) (L.left link.old) (L.written link.old) (L.moments link.old))
+        (scene (L.taken link.new) (L.left link.new) (L.written link.new) (L.moments link.new)) piece
         × Fetches result piece count buffer.old.items buffer.new.items }
     ensures end { IfErr result (λ why. AtEnd why (L.left link.new)) }
     ensures faults { Faults (end_of result) (L.read_faults link.old) (L.read_faults link.new)
@@ -131,18 +133,26 @@ enum Replied {
     NoMemory,
 }
 
-/// Makes the answer to a message that comes after so many replies, and writes it.
-fn reply_to<L: Link>(alloc: Global, link: &mut L, replies: u64, message: &Message) -> Replied
-    ensures answers { Answers result (L.written link.old) (L.written link.new)
-        (answer replies message.now) }
+/// Executes a message that comes after so many replies, and writes its answer.
+fn reply_to<L: Link>(
+    alloc: Global,
+    link: &mut L,
+    store: &mut PlainStore,
+    replies: u64,
+    message: &Message,
+) -> Replied
+    ensures answers { Answers result message.now replies
+        (scene (L.taken link.old) (L.left link.old) (L.written link.old) (L.moments link.old))
+        (scene (L.taken link.new) (L.left link.new) (L.written link.new) (L.moments link.new))
+        (store_of store.old) (store_of store.new) }
     ensures taken { L.taken link.new ≡ L.taken link.old }
     ensures left { L.left link.new ≡ L.left link.old }
     ensures faults { Faults (fault_of result) (L.read_faults link.old) (L.read_faults link.new)
         (L.write_faults link.old) (L.write_faults link.new) }
 {
-    // No command needs it yet.
+    // No operation needs it yet.
     let _moment = link.now();
-    let Ok(bytes) = answer(alloc, replies, message) else {
+    let Ok(bytes) = answer(alloc, store, replies, message) else {
         return Replied::NoMemory;
     };
     match write_all(link, bytes.as_slice()) {
@@ -152,10 +162,17 @@ fn reply_to<L: Link>(alloc: Global, link: &mut L, replies: u64, message: &Messag
 }
 
 /// Answers each message as soon as it is whole, until the link or the memory ends it.
-fn converse<L: Link>(alloc: Global, link: &mut L) -> Said
-    ensures talks { Talks (scene (L.taken link.old) (L.left link.old) (L.written link.old))
-        (scene (L.taken link.new) (L.left link.new) (L.written link.new))
-        result.why result.commands }
+fn converse<L: Link>(
+    alloc: Global,
+    link: &mut L,
+    store: &mut PlainStore,
+    seat: u64,
+    number: u64,
+) -> Said
+    ensures talks { Talks seat number
+        (scene (L.taken link.old) (L.left link.old) (L.written link.old) (L.moments link.old))
+        (scene (L.taken link.new) (L.left link.new) (L.written link.new) (L.moments link.new))
+        (store_of store.old) (store_of store.new) result.why result.commands }
     ensures end { AtEnd result.why (L.left link.new) }
     ensures faults { Faults result.why (L.read_faults link.old) (L.read_faults link.new)
         (L.write_faults link.old) (L.write_faults link.new) }
@@ -168,7 +185,7 @@ fn converse<L: Link>(alloc: Global, link: &mut L) -> Said
     loop {
         match take(alloc, tail(&buffer, used)) {
             Taken::Whole { message, used: len } => {
-                let replied = reply_to(alloc, link, commands, &message);
+                let replied = reply_to(alloc, link, store, commands, &message);
                 drop(message);
                 match replied {
                     Replied::Sent => {}
@@ -192,18 +209,25 @@ fn converse<L: Link>(alloc: Global, link: &mut L) -> Said
     }
 }
 
-/// Serves one connection to its end, as the `number`th of the worker `seat`.
-pub fn serve_link<L: Link>(alloc: Global, mut link: L, seat: u64, number: u64) -> Ended<L>
+/// Serves one connection to its end, as the `number`th of the worker `seat`, over a store.
+pub fn serve_link<L: Link>(
+    alloc: Global,
+    mut link: L,
+    seat: u64,
+    number: u64,
+    store: &mut PlainStore,
+) -> Ended<L>
     ensures names { (result.seat ≡ seat) × (result.number ≡ number) }
-    ensures talks { Talks (scene (L.taken link) (L.left link) (L.written link))
-        (scene (L.taken result.link) (L.left result.link) (L.written result.link))
-        result.why result.commands }
+    ensures talks { Talks seat number
+        (scene (L.taken link) (L.left link) (L.written link) (L.moments link))
+        (scene (L.taken result.link) (L.left result.link) (L.written result.link) (L.moments result.link))
+        (store_of store.old) (store_of store.new) result.why result.commands }
     ensures end { AtEnd result.why (L.left result.link) }
     ensures faults { Faults result.why (L.read_faults link) (L.read_faults result.link)
         (L.write_faults link) (L.write_faults result.link) }
     ensures lost { result.lost ≡ 0 }
 {
-    let said = converse(alloc, &mut link);
+    let said = converse(alloc, &mut link, store, seat, number);
     link.shut();
     Ended {
         seat,

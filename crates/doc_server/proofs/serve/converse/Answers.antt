@@ -1,12 +1,12 @@
 use Rattle.std.proofs.Common.{rules, arith}
-use Rattle.doc_server.proofs.Conversation.{turns, breaks, stops, reads, room-reads, used-turns, short-at}
+use Rattle.doc_server.proofs.Conversation.{begins, starves, turns, breaks, stops, reads, room-reads, used-turns, short-at}
 use Rattle.doc_server.proofs.serve.converse.Goals as goal
 
 pub returns-in-WriteFault-clause-talks : goal.returns-in-WriteFault-clause-talks
 returns-in-WriteFault-clause-talks g c =
     let known = c.loop-message.invariant in
     rw (c.of.ensures.why, c.of.ensures.commands)
-    (breaks _ _ _ _ _ _ _ _ _ _ _ known.going c.deref.ensures.value c.tail.ensures c.in-Whole.ensures c.reply_to-replied.ensures.taken c.reply_to-replied.ensures.left c.in-WriteFault.ensures.answers)
+    (breaks _ _ _ _ _ _ _ _ _ _ _ _ _ _ _ _ known.going c.deref.ensures.value c.tail.ensures c.in-Whole.ensures c.reply_to-replied.ensures.taken c.reply_to-replied.ensures.left c.in-WriteFault.ensures.answers)
 
 pub loop-message-preserved-in-Whole : goal.loop-message-preserved-in-Whole
 loop-message-preserved-in-Whole g c =
@@ -18,7 +18,7 @@ loop-message-preserved-in-Whole g c =
       room = omega (arith, known.room, front.some);
       read_faults = search rules;
       write_faults = search rules;
-      going = turns _ _ _ _ _ _ _ _ _ _ _ known.going c.deref.ensures.value c.tail.ensures front c.reply_to-replied.ensures.taken c.reply_to-replied.ensures.left c.in-Sent.ensures.answers;
+      going = turns _ _ _ _ _ _ _ _ _ _ _ _ _ _ _ _ known.going c.deref.ensures.value c.tail.ensures front c.reply_to-replied.ensures.taken c.reply_to-replied.ensures.left c.in-Sent.ensures.answers;
     }
 
 pub loop-message-preserved : goal.loop-message-preserved
@@ -31,11 +31,27 @@ loop-message-preserved g c =
       room = room-reads _ _ _ _ _ _ _ _ known.room known.used c.drop_front.ensures fetched.2.3 fetched.2.0;
       read_faults = search rules;
       write_faults = search rules;
-      going = reads _ _ _ _ _ _ _ _ _ known.going c.drop_front.ensures fetched;
+      going = reads _ _ _ _ _ _ _ _ _ _ _ _ _ known.going c.drop_front.ensures fetched;
     }
 
 pub returns-in-Err-clause-talks : goal.returns-in-Err-clause-talks
 returns-in-Err-clause-talks g c =
     let known = c.loop-message.invariant in
     rw (c.of-in-Err.ensures.why, c.of-in-Err.ensures.commands)
-    (stops _ _ _ _ _ _ _ _ known.going c.drop_front.ensures (short-at _ _ _ _ c.deref.ensures.value c.tail.ensures c.in-Short.ensures) c.in-Err.ensures.fetches)
+    (stops _ _ _ _ _ _ _ _ _ _ _ _ known.going c.drop_front.ensures (short-at _ _ _ _ c.deref.ensures.value c.tail.ensures c.in-Short.ensures) c.in-Err.ensures.fetches)
+
+pub loop-message-init : goal.loop-message-init
+loop-message-init g c = record {
+  used = omega arith;
+  limit = omega arith;
+  room = search rules;
+  read_faults = search rules;
+  write_faults = search rules;
+  going = begins _ _ _ _ _ (search rules);
+}
+
+pub returns-in-NoMemory-replied-clause-talks : goal.returns-in-NoMemory-replied-clause-talks
+returns-in-NoMemory-replied-clause-talks g c =
+    let known = c.loop-message.invariant in
+    rw (c.of-in-NoMemory-replied.ensures.why, c.of-in-NoMemory-replied.ensures.commands)
+    (starves _ _ _ _ _ _ _ _ _ _ _ known.going c.reply_to-replied.ensures.taken c.reply_to-replied.ensures.left c.in-NoMemory-replied.ensures.answers)

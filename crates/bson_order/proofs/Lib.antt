@@ -1,0 +1,11 @@
+pub mod Layers
+pub mod Ends
+pub mod Ties
+pub mod Depths
+pub mod Total
+pub mod Places
+pub mod Helds
+pub mod Parts
+pub mod Plains
+pub mod SameKeys
+pub mod EqualKeys

@@ -1,0 +1,4 @@
+pub mod Order
+pub mod Choice
+pub mod Key
+pub mod Plain

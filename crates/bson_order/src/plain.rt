@@ -1,0 +1,109 @@
+ghost use Rattle.std.specs.Prelude.{◌≡◌, ◌↔◌, ◌<◌, ◌^◌, All, FitsSigned, IsTrue, length};
+ghost use Rattle.std.specs.Int.{w32, w64};
+ghost use Rattle.bson_order.specs.Plain.{HasNoNul, IsPlain, IsPlainPair};
+
+use bson_values::{Document, List, Regex, Value};
+
+fn has_no_nul(text: &str) -> bool
+    ensures { IsTrue result ↔ HasNoNul text.now }
+{
+    text.as_bytes().iter().all(|byte| *byte != 0)
+}
+
+/// An ObjectId has twelve bytes by its type.
+fn id_is_whole(_id: &[u8; 12])
+    ensures { length _id.now ≡ 12 }
+{}
+
+/// Reads a number: what is read fits its type.
+fn int_of(number: &i32) -> i32
+    ensures same { result ≡ number.now }
+    ensures fits { FitsSigned w32 result }
+{
+    *number
+}
+
+/// Reads a number: what is read fits its type.
+fn long_of(number: &i64) -> i64
+    ensures same { result ≡ number.now }
+    ensures fits { FitsSigned w64 result }
+{
+    *number
+}
+
+/// Reads a number: what is read fits its type.
+fn stamp_of(stamp: &u64) -> u64
+    ensures same { result ≡ stamp.now }
+    ensures fits { result < 2 ^ 64 }
+{
+    *stamp
+}
+
+fn is_plain_regex(regex: &Regex) -> bool
+    ensures { IsTrue result ↔ HasNoNul regex.now.pattern × HasNoNul regex.now.options }
+{
+    has_no_nul(regex.pattern.as_str()) && has_no_nul(regex.options.as_str())
+}
+
+/// Whether a key tells the value apart: no name at any depth and no text of a regex has U+0000.
+#[cycle(plain)]
+pub fn is_plain(value: &Value) -> bool
+    ensures { IsTrue result ↔ IsPlain value.now }
+{
+    match value {
+        Value::Str(_) => true,
+        Value::Doc(document) => is_plain_document(document),
+        Value::Arr(items) => is_plain_array(items),
+        Value::Bin(_) => true,
+        Value::Id(id) => {
+            id_is_whole(id);
+            true
+        }
+        Value::Bool(_) => true,
+        Value::Date(moment) => {
+            long_of(moment);
+            true
+        }
+        Value::Null => true,
+        Value::Regex(regex) => is_plain_regex(regex),
+        Value::Int(number) => {
+            int_of(number);
+            true
+        }
+        Value::Stamp(stamp) => {
+            stamp_of(stamp);
+            true
+        }
+        Value::Long(number) => {
+            long_of(number);
+            true
+        }
+    }
+}
+
+#[cycle(plain)]
+fn is_plain_document(document: &Document) -> bool
+    ensures { IsTrue result ↔ All IsPlainPair document.now }
+{
+    for pair in document.as_slice() {
+        if !has_no_nul(pair.name.as_str()) {
+            return false;
+        }
+        if !is_plain(&pair.value) {
+            return false;
+        }
+    }
+    true
+}
+
+#[cycle(plain)]
+fn is_plain_array(items: &List<Value>) -> bool
+    ensures { IsTrue result ↔ All IsPlain items.now }
+{
+    for item in items.as_slice() {
+        if !is_plain(item) {
+            return false;
+        }
+    }
+    true
+}

@@ -1,10 +1,10 @@
 -- How long a spelling is.
-use Rattle.std.proofs.Common.{◌≡◌, ℕ, zero, suc, ◌+◌, ◌<◌, List, [], ◌∷◌, ◌++◌, length, map, get_or, ap, ◌∙◌, arith}
+use Rattle.std.proofs.Common.{◌≡◌, ℕ, zero, suc, ◌+◌, ◌<◌, ◌≤◌, List, [], ◌∷◌, ◌++◌, length, map, take, drop, get_or, ap, sym, ◌∙◌, arith}
 use Rattle.std.specs.Fmt.{decimal}
 use Rattle.std.specs.List.{flat_map}
 use Rattle.std.proofs.lemmas.Grind.{flat_map-append}
 use Rattle.byteorder.specs.Numbers.{length-bytes_low_first}
-use Rattle.std.proofs.lemmas.List.{length-append, append-nil}
+use Rattle.std.proofs.lemmas.List.{length-append, append-nil, drop_more}
 use Rattle.std.proofs.lemmas.List.Folds.{length-flat_map-take}
 use Rattle.bson_values.specs.declared.pairs.Pair.{Pair}
 use Rattle.bson_values.specs.declared.value.Value.{Value}
@@ -38,6 +38,22 @@ item-below (it ∷ items) first zero limit item is within small =
 item-below (it ∷ items) first (suc place) limit item is within small =
     item-below items (first + 1) place limit item is (omega arith) (omega (arith, length-append (element_of (decimal first) (held it)) (items_from (first + 1) (map held items))))
 
+-- an element finds room where what is left to write does
+pub element-fits : (pairs : List (Pair Value)) (place spare room : ℕ) (pair : Pair Value) → pair ≡ get_or pairs place pair → place < length pairs → length (flat_map element pairs) ≤ room
+    → spare + length (flat_map element (take place pairs)) ≡ room → length (element pair) ≤ spare
+element-fits pairs place spare room pair is within all written =
+    omega (arith, all, written, length-flat_map-take element pairs place pair within, ap (λ (p : Pair Value). length (element p)) is)
+
+-- so does an item
+pub item-fits : (items : List Value) (first place spare room : ℕ) (item : Value) → item ≡ get_or items place item → place < length items → length (items_from 0 (map held items)) ≤ room
+    → spare + length (items_from 0 (map held items)) ≡ room + length (items_from first (map held (drop place items))) → length (element_of (decimal first) (held item)) ≤ spare
+item-fits items first place spare room item is within all written =
+    let here = element_of (decimal first) (held item) in
+    let rest = items_from (first + 1) (map held (drop (place + 1) items)) in
+    let left : items_from first (map held (drop place items)) ≡ here ++ rest =
+    ap (λ (list : List Value). items_from first (map held list)) (drop_more items place item within) ∙ ap (λ (it : Value). element_of (decimal first) (held it) ++ rest) (sym is) in
+    omega (arith, all, written, ap length left, length-append here rest)
+
 -- a pair more makes the spelling longer by its element
 pub spell-push : (doc : List (Pair Value)) (name : List ℕ) (it : Value) → length (spell (doc ++ record { name = name; value = it } ∷ [])) ≡ length (spell doc) + length name + length (held it).1 + 2
 spell-push doc name it =
@@ -45,3 +61,6 @@ spell-push doc name it =
     let inside = flat_map element doc in
     let more : flat_map element (doc ++ pair ∷ []) ≡ inside ++ element pair = flat_map-append element doc (pair ∷ []) ∙ ap (λ (last : List ℕ). inside ++ last) (append-nil (element pair)) in
     omega (arith, ap length more, length-append inside (element pair), length-element_of name (held it), length-enclosed (flat_map element (doc ++ pair ∷ [])), length-enclosed inside)
+
+-- how long the parts of a spelling are
+pub ruleset lengths = (length-string, length-binary, length-enclosed, length-element_of)

@@ -1,12 +1,14 @@
 //! Wire: the bytes of documents, as BSON 1.1 says.
 #![tactic(auto)]
 
+mod counting;
 mod foreign;
 mod laws;
 mod reader;
 mod refused;
 mod scalars;
 mod writer;
+mod writing_in;
 
 pub use foreign::Foreign;
 pub use laws::{
@@ -15,6 +17,7 @@ pub use laws::{
 pub use reader::{Front, read};
 pub use refused::ReadRefused;
 pub use writer::write;
+pub use writing_in::write_in;
 
 #[cfg(test)]
 mod passing;

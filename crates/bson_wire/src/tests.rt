@@ -1,8 +1,8 @@
 ghost use Rattle.std.specs.Prelude.{◌≡◌, ◌+◌, ◌<◌, ◌≤◌, ◌^◌, length, IfOk, OnOk};
 ghost use Rattle.bson_wire.specs.Spelling.{held, spell};
 
-use crate::{ReadRefused, read, write};
-use bson_values::{Binary, Bytes, Document, List, NoMemory, Regex, Text, Value};
+use crate::{ReadRefused, read, write, write_in};
+use bson_values::{Binary, Bytes, Document, List, NoMemory, Regex, Room, Text, Value};
 use std::alloc::Global;
 use std::test::Fail;
 
@@ -93,6 +93,17 @@ fn a_document_of_every_type_is_written_byte_by_byte(rt: HostRuntime) -> Result<(
     write(&doc, &mut out)?;
     assert_eq!(rt; out.as_slice()[0], 7);
     assert_eq!(rt; &out.as_slice()[1..], ALL.as_slice());
+    Ok(())
+}
+
+#[tactic(auto, using(crate::proofs::Measured::measured))]
+#[test]
+fn a_room_of_its_size_takes_a_document_of_every_type(rt: HostRuntime) -> Result<(), Fail> {
+    let doc = all_types(rt.alloc())?;
+    assert_eq!(rt; doc.size(), 121);
+    let mut out = Room::new(rt.alloc(), doc.size())?;
+    write_in(&doc, &mut out);
+    assert_eq!(rt; out.items(), ALL.as_slice());
     Ok(())
 }
 

@@ -63,7 +63,7 @@ fn put_two(pattern: &str, options: &str, out: &mut Bytes) -> Result<(), NoMemory
 
 /// The type byte of a value.
 #[tactic(auto, using(crate::proofs::Helds::held_is))]
-fn code(value: &Value) -> u8
+pub(crate) fn code(value: &Value) -> u8
     ensures { result ≡ (held value.now).0 }
 {
     match value {

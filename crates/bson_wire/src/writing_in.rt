@@ -180,8 +180,8 @@ fn put_array(items: &List<Value>, out: &mut Room<u8>)
 }
 
 /// Appends the spelling of a document and takes no memory: a caller gives `out` room beforehand, as `Room::new` does
-/// for `doc.size()` bytes. The length of each inner document and array is counted before its elements are written, so
-/// that a value is gone over once for each level that it stands in.
+/// for `doc.size()` bytes. The length of each document and array is counted before its elements are written, so that
+/// a value is gone over once for each level that it stands in, of which what `read` gives has at most 128.
 #[tactic(auto, using(crate::proofs::Measured::measured))]
 pub fn write_in(doc: &Document, out: &mut Room<u8>)
     requires small { size doc.now ≤ 2147483647 }

@@ -30,13 +30,22 @@ fn put_int64(number: u64, out: &mut Room<u8>)
     out.extend_in(&bytes);
 }
 
+/// The 00 byte that ends a text, a document or an array.
+fn put_end(out: &mut Room<u8>)
+    requires room { 1 ≤ out.old.spare }
+    ensures items { out.new.items ≡ out.old.items ++ 0 ∷ [] }
+    ensures spare { out.new.spare + 1 ≡ out.old.spare }
+{
+    out.push_in(0);
+}
+
 fn put_cstring(text: &str, out: &mut Room<u8>)
     requires room { length (cstring text.now) ≤ out.old.spare }
     ensures items { out.new.items ≡ out.old.items ++ cstring text.now }
     ensures spare { out.new.spare + length (cstring text.now) ≡ out.old.spare }
 {
     out.extend_in(text.as_bytes());
-    out.push_in(0);
+    put_end(out);
 }
 
 fn put_string(text: &str, out: &mut Room<u8>)
@@ -154,7 +163,7 @@ fn put_document(doc: &Document, out: &mut Room<u8>)
 {
     put_int32(document_size(doc), out);
     put_elements(doc, out);
-    out.push_in(0);
+    put_end(out);
 }
 
 #[tactic(auto, using(crate::proofs::Sizes::lengths))]
@@ -167,11 +176,12 @@ fn put_array(items: &List<Value>, out: &mut Room<u8>)
 {
     put_int32(array_size(items), out);
     put_items(items, out);
-    out.push_in(0);
+    put_end(out);
 }
 
-/// Appends the spelling of a document without taking memory. The length of each inner document and array is counted
-/// before it is written, so a value is gone over once for each level that it stands in.
+/// Appends the spelling of a document and takes no memory: a caller gives `out` room beforehand, as `Room::new` does
+/// for `doc.size()` bytes. The length of each document and array is counted before its elements are written, so that
+/// a value is gone over once for each level that it stands in, of which what `read` gives has at most 128.
 #[tactic(auto, using(crate::proofs::Measured::measured))]
 pub fn write_in(doc: &Document, out: &mut Room<u8>)
     requires small { size doc.now ≤ 2147483647 }

@@ -64,7 +64,8 @@ pub record IsScoped (bytes : List ℕ) : Type 0 where
   pub small : length bytes < 2 ^ 31
   pub whole : bytes ≡ int32 (length bytes) ++ inside
 
--- behind this type byte, these bytes spell a value of a foreign type
+-- behind this type byte, these bytes spell a value of a foreign type: double, undefined, DBPointer, JavaScript code, symbol,
+-- JavaScript code with scope, decimal128, maxKey, minKey
 abbrev pub IsForeign : ℕ → List ℕ → Type 0
 IsForeign code bytes =
     ((code ≡ 1) × (length bytes ≡ 8))

@@ -1,6 +1,6 @@
 -- Why a message is refused.
 use Rattle.std.specs.Prelude.{ℕ, ◌≡◌, Bool, not, if◌then◌else◌, List, [], ◌∷◌, ◌++◌, Option, None, Some, is_none, codes}
-use Rattle.case_tables.specs.declared.kinds.TheConstants.{NO_SUCH_COMMAND, FIELD_GIVEN_TWICE, FIELD_MISSING, WRONG_TYPE, INVALID_NAMESPACE, NOT_SUPPORTED}
+use Rattle.case_tables.specs.declared.kinds.TheConstants.{UNSUPPORTED_TYPE, NO_SUCH_COMMAND, FIELD_GIVEN_TWICE, FIELD_MISSING, WRONG_TYPE, INVALID_NAMESPACE, NOT_SUPPORTED}
 use Rattle.bson_values.specs.declared.pairs.Pair.{Pair}
 use Rattle.bson_values.specs.declared.value.Value.{Value}
 use Rattle.bson_values.specs.Names.{first_of}
@@ -63,9 +63,13 @@ rows_of _ db body = []
 abbrev pub rows_in : List (Pair Value) → List (Bool × ℕ)
 rows_in body = common_rows body ++ rows_of (word_in body) (text_in (field_of body (codes "$db"))) body
 
+-- all rows of a message: before its body is looked at, a foreign element is the reason, wherever in the body it stood
+abbrev pub message_rows : Message → List (Bool × ℕ)
+message_rows m = (not (is_none m.foreign), UNSUPPORTED_TYPE) ∷ rows_in m.body
+
 -- why a message is refused, where it is
 abbrev pub refusal : Message → Option ℕ
-refusal m = first_kind (rows_in m.body)
+refusal m = first_kind (message_rows m)
 
 -- a refusal tells that, and want of memory that there is none
 abbrev pub Tells : CommandRefused → Message → Type 0

@@ -6,6 +6,7 @@ ghost use Rattle.command_words.specs.Refusal.{refusal, Tells};
 use crate::refused::CommandRefused;
 use crate::request::Request;
 use bson_values::{NoMemory, Space, Text};
+use case_tables::UNSUPPORTED_TYPE;
 use doc_model::Op;
 use op_msg::Message;
 use std::alloc::Global;
@@ -27,6 +28,9 @@ impl Command {
         // No operation is on a space whose names none has.
         ensures named { IfOk result AreNamed }
     {
+        if message.foreign.is_some() {
+            return Err(CommandRefused::Refused(UNSUPPORTED_TYPE));
+        }
         match Request::of(&message.body) {
             Ok(asked) => Ok(copied(alloc, asked)?),
             Err(kind) => Err(CommandRefused::Refused(kind)),

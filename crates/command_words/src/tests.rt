@@ -1,5 +1,6 @@
 use crate::{Command, CommandRefused};
 use bson_values::{Document, List, NoMemory, Text, Value};
+use bson_wire::Foreign;
 use doc_model::Op;
 use op_msg::Message;
 use std::alloc::Global;
@@ -61,6 +62,8 @@ const FIND_ALL: Fields = &[
 ];
 
 const PING: Fields = &[("ping", Given::Number(1)), ("$db", Given::Text("admin"))];
+
+const UNKNOWN: Fields = &[("frobnicate", COLL), ("$db", DB)];
 
 /// Bodies with the kinds by which they are refused.
 const REFUSED: [(Fields, u32); 20] = [
@@ -206,7 +209,24 @@ fn message(alloc: Global, fields: Fields) -> Result<Message, NoMemory> {
         let value = value(alloc, *given)?;
         body.push(name, value).map_err(|_| NoMemory)?;
     }
-    Ok(Message { request: 7, body })
+    Ok(Message {
+        request: 7,
+        body,
+        foreign: None,
+    })
+}
+
+#[test]
+fn a_foreign_element_is_refused_before_all_else(rt: HostRuntime) -> Result<(), Fail> {
+    for fields in [PING, INSERT, FIND, UNKNOWN] {
+        let mut message = message(rt.alloc(), fields)?;
+        message.foreign = Some(Foreign { code: 1, place: 60 });
+        match Command::read(rt.alloc(), &message) {
+            Ok(_) => panic!(rt; "accepted a foreign element"),
+            Err(refused) => assert_eq!(rt; refused, CommandRefused::Refused(2)),
+        }
+    }
+    Ok(())
 }
 
 #[test]

@@ -1,8 +1,8 @@
 -- How great the codes and how long the texts of refusals are.
-use Rattle.std.proofs.Common.{◌≡◌, ℕ, ◌≤◌, ◌==◌, Bool, true, false, cond, eqb, leb, ◌&&◌, List, [], ◌∷◌, length, refl, sym, arith}
-use Rattle.std.specs.Prelude.{nat_le, if◌then◌else◌}
+use Rattle.std.proofs.Common.{◌≡◌, ℕ, ◌≤◌, Bool, true, false, cond, eqb, leb, ◌&&◌, List, [], ◌∷◌, length, refl}
 use Rattle.std.specs.List.{list_all}
 use Rattle.std.proofs.lemmas.Bool.{leb-true}
+use Rattle.case_tables.specs.Types.{types, type_name_of}
 use Rattle.case_tables.specs.Refusals.{beside, kind_codes, kind_texts, error_codes, code_of, text_of, code_name_of}
 
 both : (one other : Bool) → (one && other) ≡ true → (one ≡ true) × (other ≡ true)
@@ -31,3 +31,7 @@ text_short kind = leb-true _ _ (found (λ text. leb (length text) 50) [] kind ki
 pub name_short : (kind : ℕ) → length (code_name_of kind) ≤ 50
 unfolding code_name_of
 name_short kind = leb-true _ _ (found (λ name. leb (length name) 50) [] (code_of kind) error_codes refl refl)
+
+pub type_name_short : (code : ℕ) → length (type_name_of code) ≤ 50
+unfolding type_name_of
+type_name_short code = leb-true _ _ (found (λ name. leb (length name) 50) [] code types refl refl)

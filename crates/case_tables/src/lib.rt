@@ -19,7 +19,7 @@ pub use kinds::{
     WRONG_OPERAND_TYPE, WRONG_TYPE,
 };
 pub use laws::a_distinct_table_gives_back_each_row;
-pub use refusals::{code_name_of, code_of, tables_are_distinct, text_of};
+pub use refusals::{code_name_of, code_of, tables_are_distinct, text_of, type_name_of};
 pub use tables::{CODES, KINDS, TYPES};
 
 #[cfg(test)]

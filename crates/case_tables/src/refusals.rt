@@ -1,5 +1,6 @@
 ghost use Rattle.std.specs.Prelude.{◌≡◌, ◌≤◌, [], true};
 ghost use Rattle.case_tables.specs.Cases.{columns};
+ghost use Rattle.case_tables.specs.Types.{type_name_of};
 ghost use Rattle.case_tables.specs.Refusals.{beside, code_of, code_name_of, coded, text_of};
 
 use crate::case_table::Case;
@@ -52,6 +53,14 @@ pub fn text_of(kind: Kind) -> &'static str
     ensures { result.now ≡ text_of kind }
 {
     name_in(&KINDS.rows, kind)
+}
+
+/// The name of the type of BSON 1.1 that has this type byte; empty for a byte that is no type's.
+#[tactic(auto, unfolding(crate::specs::Types::type_name_of))]
+pub fn type_name_of(code: u32) -> &'static str
+    ensures { result.now ≡ type_name_of code }
+{
+    name_in(&TYPES.rows, code)
 }
 
 /// The name of a kind's error code; empty for a number that is no kind.

@@ -20,7 +20,7 @@ use Rattle.command_words.specs.declared.refused.CommandRefused.{CommandRefused}
 use Rattle.command_words.specs.declared.refused.CommandRefused.TheVariants as refuse
 use Rattle.command_words.specs.Refusal.{refusal, Tells}
 use Rattle.command_words.specs.Meaning.{command_of}
-use Rattle.doc_server.specs.Replies.{ok_document, error_document, batch_document, total_size, fit_a_batch}
+use Rattle.doc_server.specs.Replies.{ok_document, error_document, refusal_document, batch_document, total_size, fit_a_batch}
 use Rattle.doc_server.specs.Answers.{answer}
 use Rattle.doc_server.specs.Script.{ops_of, AreReplied}
 use Rattle.doc_server.specs.Carried.{put_after, Performed, Answered}
@@ -71,7 +71,7 @@ on-err (Err refused) Fact fact = fact
 -- ---- a message
 
 module _ (m : Message) (replies : ℕ) (before after : Store) (bytes : List ℕ) where
-  pub answered-refusal : (kind : ℕ) → after ≡ before → refusal m ≡ Some kind → bytes ≡ put_after replies m.request (error_document kind) → Answered m replies before after bytes
+  pub answered-refusal : (kind : ℕ) → after ≡ before → refusal m ≡ Some kind → bytes ≡ put_after replies m.request (refusal_document kind m.foreign) → Answered m replies before after bytes
   unfolding ops_of answer
   answered-refusal kind same refused is = record { replied = []; all = rw refused tt; ran = λ seat link now. rw refused same; told = rw refused is }
 

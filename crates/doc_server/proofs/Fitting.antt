@@ -1,6 +1,6 @@
 -- How long the documents of replies are.
-use Rattle.std.proofs.Common.{◌≡◌, ℕ, ℤ, pos, suc, ◌+◌, ◌*◌, ◌^◌, ◌<◌, ◌≤◌, Bool, true, false, leb, ◌&&◌, List, [], ◌∷◌, ◌++◌, length, map, refl, sym, ap, ◌∙◌, arith, length-append}
-use Rattle.std.specs.Prelude.{codes, nat_le}
+use Rattle.std.proofs.Common.{◌≡◌, ℕ, ℤ, pos, suc, ◌+◌, ◌*◌, ◌^◌, ◌<◌, ◌≤◌, Bool, true, false, cond, leb, eqb, ◌&&◌, List, [], ◌∷◌, ◌++◌, length, map, refl, sym, ap, ◌∙◌, arith, length-append}
+use Rattle.std.specs.Prelude.{codes, nat_le, Option, None, Some}
 use Rattle.std.specs.Fmt.{decimal}
 use Rattle.std.proofs.lemmas.Bool.{leb-true}
 use Rattle.bson_values.specs.declared.pairs.Pair.{Pair}
@@ -13,11 +13,14 @@ use Rattle.bson_wire.specs.Spelling.{spell, held}
 use Rattle.bson_wire.proofs.Measured.{value_measured, measured}
 use Rattle.bson_wire.proofs.Sizes.{spell-push}
 use Rattle.bson_wire.proofs.Lengths.{size-Int, size-Long, size-Str, size-Doc}
+use Rattle.case_tables.specs.declared.kinds.TheConstants.{UNSUPPORTED_TYPE}
 use Rattle.case_tables.specs.Refusals.{code_of, code_name_of, text_of}
-use Rattle.case_tables.proofs.Bounds.{text_short, name_short}
+use Rattle.case_tables.specs.Types.{type_name_of}
+use Rattle.bson_wire.specs.declared.foreign.Foreign.{Foreign}
+use Rattle.case_tables.proofs.Bounds.{text_short, name_short, type_name_short}
 use Rattle.command_words.specs.Namespace.{is_collection_name}
 use Rattle.command_words.specs.Meaning.{IsNamed}
-use Rattle.doc_server.specs.Replies.{field, ok_document, error_document, inserted_document, item_error, refused_document, namespace, cursor_document, batch_document, total_size, fit_a_batch}
+use Rattle.doc_server.specs.Replies.{field, ok_document, error_saying, error_document, sentence_of, refusal_document, inserted_document, item_error, refused_document, namespace, cursor_document, batch_document, total_size, fit_a_batch}
 
 size-Arr : (items : List Value) → length (held (value.Arr items)).1 ≡ items_size 0 (map value_size items) + 5
 size-Arr items = sym (value_measured (value.Arr items)) ∙ size_items items
@@ -30,24 +33,42 @@ inserted_fits =
     let one : List (Pair Value) = field (codes "n") (value.Int (pos 1)) ∷ [] in
     omega (arith, spell-push [] (codes "n") (value.Int (pos 1)), spell-push one (codes "ok") (value.Int (pos 1)), size-Int (pos 1))
 
-pub error_fits : (kind : ℕ) → length (spell (error_document kind)) ≤ 47999000
-error_fits kind =
+saying_fits : (kind : ℕ) (sentence : List ℕ) → length sentence ≤ 200 → length (spell (error_saying kind sentence)) ≤ 47999000
+saying_fits kind sentence short =
     let one : List (Pair Value) = field (codes "ok") (value.Int (pos 0)) ∷ [] in
-    let two : List (Pair Value) = one ++ field (codes "errmsg") (value.Str (text_of kind)) ∷ [] in
+    let two : List (Pair Value) = one ++ field (codes "errmsg") (value.Str sentence) ∷ [] in
     let three : List (Pair Value) = two ++ field (codes "code") (value.Int (pos (code_of kind))) ∷ [] in
     omega (
       arith,
+      short,
       spell-push [] (codes "ok") (value.Int (pos 0)),
-      spell-push one (codes "errmsg") (value.Str (text_of kind)),
+      spell-push one (codes "errmsg") (value.Str sentence),
       spell-push two (codes "code") (value.Int (pos (code_of kind))),
       spell-push three (codes "codeName") (value.Str (code_name_of kind)),
       size-Int (pos 0),
-      size-Str (text_of kind),
+      size-Str sentence,
       size-Int (pos (code_of kind)),
       size-Str (code_name_of kind),
-      text_short kind,
       name_short kind,
     )
+
+pub error_fits : (kind : ℕ) → length (spell (error_document kind)) ≤ 47999000
+error_fits kind = saying_fits kind (text_of kind) (omega (arith, text_short kind))
+
+one_of : (test : Bool) (one other : List ℕ) → length one ≤ 200 → length other ≤ 200 → length (cond test one other) ≤ 200
+one_of true one other first second = first
+one_of false one other first second = second
+
+sentence_short : (kind : ℕ) (foreign : Option Foreign) → length (sentence_of kind foreign) ≤ 200
+sentence_short kind None = omega (arith, text_short kind)
+sentence_short kind (Some foreign) =
+    let named = text_of kind ++ codes " " ++ type_name_of foreign.code in
+    one_of (eqb kind UNSUPPORTED_TYPE) named (text_of kind)
+    (omega (arith, text_short kind, type_name_short foreign.code, length-append (text_of kind ++ codes " ") (type_name_of foreign.code), length-append (text_of kind) (codes " ")))
+    (omega (arith, text_short kind))
+
+pub refusal_fits : (kind : ℕ) (foreign : Option Foreign) → length (spell (refusal_document kind foreign)) ≤ 47999000
+refusal_fits kind foreign = saying_fits kind (sentence_of kind foreign) (sentence_short kind foreign)
 
 -- {n: 0, writeErrors: [..], ok: 1}
 item_short : (kind : ℕ) → length (spell (item_error kind)) ≤ 200

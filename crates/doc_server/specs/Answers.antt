@@ -3,6 +3,7 @@ use Rattle.std.specs.Prelude.{ℕ, pos, ◌+◌, ◌%◌, ◌^◌, if◌then◌e
 use Rattle.bson_values.specs.declared.pairs.Pair.{Pair}
 use Rattle.bson_values.specs.declared.value.Value.{Value}
 use Rattle.case_tables.specs.declared.kinds.TheConstants.{INTERNAL_ERROR, NOT_SUPPORTED}
+use Rattle.bson_wire.specs.declared.foreign.Foreign.{Foreign}
 use Rattle.op_msg.specs.declared.message.Message.{Message}
 use Rattle.op_msg.specs.Reply.{reply}
 use Rattle.doc_model.specs.declared.op.Op.{Op}
@@ -13,7 +14,7 @@ use Rattle.command_words.specs.declared.command.Command.{Command}
 use Rattle.command_words.specs.declared.command.Command.TheVariants.{Ping, Insert, Find}
 use Rattle.command_words.specs.Refusal.{refusal}
 use Rattle.command_words.specs.Meaning.{command_of}
-use Rattle.doc_server.specs.Replies.{ok_document, error_document, inserted_document, refused_document, batch_document, fit_a_batch}
+use Rattle.doc_server.specs.Replies.{ok_document, error_document, refusal_document, inserted_document, refused_document, batch_document, fit_a_batch}
 
 -- what an operation's reply is told as; so far a find is refused whose documents do not go into one batch
 abbrev pub op_document : Op → OpReply → List (Pair Value)
@@ -29,12 +30,12 @@ command_document (Find op) (reply ∷ []) = op_document op reply
 command_document command replies = ok_document
 
 -- a refused message is answered with its refusal
-abbrev pub document_by : Option ℕ → Command → List OpReply → List (Pair Value)
-document_by (Some kind) command replies = error_document kind
-document_by None command replies = command_document command replies
+abbrev pub document_by : Option ℕ → Option Foreign → Command → List OpReply → List (Pair Value)
+document_by (Some kind) foreign command replies = refusal_document kind foreign
+document_by None foreign command replies = command_document command replies
 
 abbrev pub document_of : Message → List OpReply → List (Pair Value)
-document_of m replies = document_by (refusal m) (command_of m) replies
+document_of m replies = document_by (refusal m) m.foreign (command_of m) replies
 
 -- the reply to a message that comes after k replies
 unfoldable pub answer : ℕ → Message → List OpReply → List ℕ

@@ -1,11 +1,14 @@
 -- The documents of replies.
-use Rattle.std.specs.Prelude.{ℕ, pos, ◌+◌, ◌&&◌, Bool, nat_le, List, [], ◌∷◌, ◌++◌, length, map, codes}
+use Rattle.std.specs.Prelude.{ℕ, pos, ◌+◌, ◌&&◌, ◌==◌, Bool, nat_le, if◌then◌else◌, List, [], ◌∷◌, ◌++◌, length, map, codes, Option, None, Some}
 use Rattle.bson_values.specs.declared.pairs.Pair.{Pair}
 use Rattle.bson_values.specs.declared.space.Space.{Space}
 use Rattle.bson_values.specs.declared.value.Value.{Value}
 use Rattle.bson_values.specs.declared.value.Value.TheVariants.{Str, Doc, Arr, Int, Long}
 use Rattle.bson_values.specs.Measures.{size}
+use Rattle.bson_wire.specs.declared.foreign.Foreign.{Foreign}
+use Rattle.case_tables.specs.declared.kinds.TheConstants.{UNSUPPORTED_TYPE}
 use Rattle.case_tables.specs.Refusals.{code_of, code_name_of, text_of}
+use Rattle.case_tables.specs.Types.{type_name_of}
 
 -- a field
 abbrev pub field : List ℕ → Value → Pair Value
@@ -16,13 +19,25 @@ abbrev pub ok_document : List (Pair Value)
 ok_document = field (codes "ok") (Int (pos 1)) ∷ []
 
 -- {ok: 0, errmsg: .., code: .., codeName: ..}
-abbrev pub error_document : ℕ → List (Pair Value)
-error_document kind =
+abbrev pub error_saying : ℕ → List ℕ → List (Pair Value)
+error_saying kind sentence =
     field (codes "ok") (Int (pos 0))
-    ∷ field (codes "errmsg") (Str (text_of kind))
+    ∷ field (codes "errmsg") (Str sentence)
     ∷ field (codes "code") (Int (pos (code_of kind)))
     ∷ field (codes "codeName") (Str (code_name_of kind))
     ∷ []
+
+abbrev pub error_document : ℕ → List (Pair Value)
+error_document kind = error_saying kind (text_of kind)
+
+-- the sentence of a refusal; the name of the type follows that of an unsupported one
+abbrev pub sentence_of : ℕ → Option Foreign → List ℕ
+sentence_of kind None = text_of kind
+sentence_of kind (Some foreign) = if kind == UNSUPPORTED_TYPE then text_of kind ++ codes " " ++ type_name_of foreign.code else text_of kind
+
+-- the error of a message that has this first foreign element
+abbrev pub refusal_document : ℕ → Option Foreign → List (Pair Value)
+refusal_document kind foreign = error_saying kind (sentence_of kind foreign)
 
 -- {n: 1, ok: 1}
 abbrev pub inserted_document : List (Pair Value)

@@ -3,12 +3,12 @@ ghost use Rattle.bson_wire.specs.Spelling.{spell};
 ghost use Rattle.doc_model.specs.declared.op.Op.TheVariants as op;
 ghost use Rattle.command_words.specs.Meaning.{IsNamed, OpIsNamed};
 ghost use Rattle.doc_server.specs.Kept.{store_of};
-ghost use Rattle.doc_server.specs.Replies.{ok_document, error_document, inserted_document, refused_document, batch_document, fit_a_batch};
+ghost use Rattle.doc_server.specs.Replies.{ok_document, error_document, refusal_document, inserted_document, refused_document, batch_document, fit_a_batch};
 ghost use Rattle.doc_server.specs.Carried.{put_after, Performed, Answered};
 
 use crate::plain_store::PlainStore;
 use crate::replies::{
-    batch_reply, error_reply, fit_a_batch, inserted_reply, ok_reply, refused_reply,
+    batch_reply, error_reply, fit_a_batch, inserted_reply, ok_reply, refusal_reply, refused_reply,
 };
 use bson_values::{Bytes, Document, NoMemory, Space};
 use case_tables::{Kind, NOT_SUPPORTED};
@@ -31,6 +31,20 @@ fn put_error(alloc: Global, replies: u64, message: &Message, kind: Kind) -> Resu
     ensures { IfOk result (λ bytes. bytes ≡ put_after replies message.now.request (error_document kind)) }
 {
     let doc = error_reply(alloc, kind)?;
+    put(alloc, replies, message, &doc)
+}
+
+#[tactic(auto, using(crate::proofs::Fitting::refusal_fits))]
+fn put_refusal(
+    alloc: Global,
+    replies: u64,
+    message: &Message,
+    kind: Kind,
+) -> Result<Bytes, NoMemory>
+    ensures { IfOk result (λ bytes. bytes ≡ put_after replies message.now.request
+        (refusal_document kind message.now.foreign)) }
+{
+    let doc = refusal_reply(alloc, kind, &message.foreign)?;
     put(alloc, replies, message, &doc)
 }
 
@@ -153,7 +167,7 @@ pub(crate) fn answer(
         Ok(Command::Ping) => put_ok(alloc, replies, message),
         Ok(Command::Insert { op }) => perform(alloc, store, replies, message, op),
         Ok(Command::Find { op }) => perform(alloc, store, replies, message, op),
-        Err(CommandRefused::Refused(kind)) => put_error(alloc, replies, message, kind),
+        Err(CommandRefused::Refused(kind)) => put_refusal(alloc, replies, message, kind),
         Err(CommandRefused::NoMemory) => Err(NoMemory),
     }
 }

@@ -1,10 +1,12 @@
 ghost use Rattle.std.specs.Prelude.{◌≡◌, ◌++◌, ◌∷◌, ◌^◌, ◌-◌, [], min, pos, codes, map, IfOk, OnOk};
-ghost use Rattle.case_tables.specs.Refusals.{code_of};
+ghost use Rattle.case_tables.specs.Refusals.{code_of, text_of};
+ghost use Rattle.case_tables.specs.Types.{type_name_of};
 ghost use Rattle.bson_values.specs.declared.value.Value.TheVariants.{Doc as document};
-ghost use Rattle.doc_server.specs.Replies.{ok_document, error_document, inserted_document, item_error, refused_document, namespace, cursor_document, batch_document, total_size, fit_a_batch};
+ghost use Rattle.doc_server.specs.Replies.{ok_document, error_saying, error_document, refusal_document, inserted_document, item_error, refused_document, namespace, cursor_document, batch_document, total_size, fit_a_batch};
 
 use bson_values::{Document, List, NoMemory, Space, Text, Value};
-use case_tables::{Kind, code_name_of, code_of, text_of};
+use bson_wire::Foreign;
+use case_tables::{Kind, UNSUPPORTED_TYPE, code_name_of, code_of, text_of, type_name_of};
 use std::alloc::Global;
 
 /// The most documents of one batch.
@@ -44,15 +46,51 @@ pub(crate) fn ok_reply(alloc: Global) -> Result<Document, NoMemory>
     Ok(doc)
 }
 
-pub(crate) fn error_reply(alloc: Global, kind: Kind) -> Result<Document, NoMemory>
-    ensures { IfOk result (λ doc. doc ≡ error_document kind) }
+fn error_saying(alloc: Global, kind: Kind, sentence: &str) -> Result<Document, NoMemory>
+    ensures { IfOk result (λ doc. doc ≡ error_saying kind sentence.now) }
 {
     let mut doc = Document::new(alloc);
     add(alloc, &mut doc, "ok", Value::Int(0))?;
-    add_text(alloc, &mut doc, "errmsg", text_of(kind))?;
+    add_text(alloc, &mut doc, "errmsg", sentence)?;
     add_code(alloc, &mut doc, kind)?;
     add_text(alloc, &mut doc, "codeName", code_name_of(kind))?;
     Ok(doc)
+}
+
+pub(crate) fn error_reply(alloc: Global, kind: Kind) -> Result<Document, NoMemory>
+    ensures { IfOk result (λ doc. doc ≡ error_document kind) }
+{
+    error_saying(alloc, kind, text_of(kind))
+}
+
+/// The sentence of an unsupported type, with the type's name.
+fn naming(alloc: Global, code: u8) -> Result<Text, NoMemory>
+    ensures { IfOk result (λ text. text ≡ text_of UNSUPPORTED_TYPE ++ codes " " ++ type_name_of code) }
+{
+    let mut text = String::from_str(alloc, text_of(UNSUPPORTED_TYPE))?;
+    text.push_str(" ")?;
+    text.push_str(type_name_of(code as u32))?;
+    Ok(Text::from_string(text))
+}
+
+/// The reply to a refused message, which has this first foreign element.
+pub(crate) fn refusal_reply(
+    alloc: Global,
+    kind: Kind,
+    foreign: &Option<Foreign>,
+) -> Result<Document, NoMemory>
+    ensures { IfOk result (λ doc. doc ≡ refusal_document kind foreign.now) }
+{
+    match foreign {
+        Some(element) => {
+            if kind != UNSUPPORTED_TYPE {
+                return error_reply(alloc, kind);
+            }
+            let sentence = naming(alloc, element.code)?;
+            error_saying(alloc, kind, sentence.as_str())
+        }
+        None => error_reply(alloc, kind),
+    }
 }
 
 pub(crate) fn inserted_reply(alloc: Global) -> Result<Document, NoMemory>

@@ -16,4 +16,4 @@ returns-in-Ok-Find-clause-ok c =
 
 pub returns-in-Err-Refused-clause-ok : goal.returns-in-Err-Refused-clause-ok
 returns-in-Err-Refused-clause-ok c =
-    if-ok _ _ _ c.put_error.ensures (λ bytes is. answered-refusal _ _ _ _ bytes _ refl (refused-tells _ _ _ (sym c.in-Err-Refused.field-0-is) c.in-Err-Refused.ensures.refused) is)
+    if-ok _ _ _ c.put_refusal.ensures (λ bytes is. answered-refusal _ _ _ _ bytes _ refl (refused-tells _ _ _ (sym c.in-Err-Refused.field-0-is) c.in-Err-Refused.ensures.refused) is)

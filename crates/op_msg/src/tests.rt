@@ -1,3 +1,5 @@
+ghost use Rattle.std.specs.Prelude.{◌≤◌};
+
 use crate::{BadKind, Taken, put_reply, take};
 use bson_values::{Bytes, Document, NoMemory, Text, Value};
 use bson_wire::Foreign;
@@ -173,7 +175,10 @@ fn the_first_foreign_element_is_told_by_its_place_in_the_message(
 }
 
 /// A message whose body has so many levels: the innermost is empty, and each other has one field of empty name.
-fn nested(alloc: Global, levels: u32) -> Result<Bytes, NoMemory> {
+fn nested(alloc: Global, levels: u32) -> Result<Bytes, NoMemory>
+    requires some { 1 ≤ levels }
+    requires few { levels ≤ 1000 }
+{
     let size = 7 * levels - 2;
     let mut bytes = Bytes::of(alloc, &(size + 21).to_le_bytes())?;
     bytes.extend(&[1, 0, 0, 0, 0, 0, 0, 0, 0xdd, 7, 0, 0, 0, 0, 0, 0, 0])?;

@@ -16,4 +16,6 @@ pub use serve::{Ended, serve_link};
 pub use why::Why;
 
 #[cfg(test)]
+mod commands;
+#[cfg(test)]
 mod tests;

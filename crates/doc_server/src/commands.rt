@@ -1,0 +1,290 @@
+use crate::tests::{OK, PING, joined, outcome, piped};
+use bson_values::{Bytes, Document, List, NoMemory, Text, Value};
+use bson_wire::write;
+use std::alloc::Global;
+use std::test::Fail;
+
+/// `{insert: "c", documents: [{_id: 1}], $db: "t"}` with requestID 7. The number of the `_id` is at 66.
+const INSERT: [u8; 84] = [
+    0x54, 0, 0, 0, 7, 0, 0, 0, 0, 0, 0, 0, 0xdd, 7, 0, 0, 0, 0, 0, 0, 0, 0x3f, 0, 0, 0, 2, 0x69,
+    0x6e, 0x73, 0x65, 0x72, 0x74, 0, 2, 0, 0, 0, 0x63, 0, 4, 0x64, 0x6f, 0x63, 0x75, 0x6d, 0x65,
+    0x6e, 0x74, 0x73, 0, 0x16, 0, 0, 0, 3, 0x30, 0, 0xe, 0, 0, 0, 0x10, 0x5f, 0x69, 0x64, 0, 1, 0,
+    0, 0, 0, 0, 2, 0x24, 0x64, 0x62, 0, 2, 0, 0, 0, 0x74, 0, 0,
+];
+
+/// `{n: 1, ok: 1}`, the first reply, to requestID 7.
+const INSERTED: [u8; 41] = [
+    0x29, 0, 0, 0, 1, 0, 0, 0, 7, 0, 0, 0, 0xdd, 7, 0, 0, 0, 0, 0, 0, 0, 0x14, 0, 0, 0, 0x10, 0x6e,
+    0, 1, 0, 0, 0, 0x10, 0x6f, 0x6b, 0, 1, 0, 0, 0, 0,
+];
+
+/// `{find: "c", $db: "t"}` with requestID 8.
+const FIND: [u8; 49] = [
+    0x31, 0, 0, 0, 8, 0, 0, 0, 0, 0, 0, 0, 0xdd, 7, 0, 0, 0, 0, 0, 0, 0, 0x1c, 0, 0, 0, 2, 0x66,
+    0x69, 0x6e, 0x64, 0, 2, 0, 0, 0, 0x63, 0, 2, 0x24, 0x64, 0x62, 0, 2, 0, 0, 0, 0x74, 0, 0,
+];
+
+/// `{cursor: {firstBatch: [{_id: 1}], id: 0L, ns: "t.c"}, ok: 1}`, the second reply, to requestID 8.
+const FOUND: [u8; 105] = [
+    0x69, 0, 0, 0, 2, 0, 0, 0, 8, 0, 0, 0, 0xdd, 7, 0, 0, 0, 0, 0, 0, 0, 0x54, 0, 0, 0, 3, 0x63,
+    0x75, 0x72, 0x73, 0x6f, 0x72, 0, 0x3f, 0, 0, 0, 4, 0x66, 0x69, 0x72, 0x73, 0x74, 0x42, 0x61,
+    0x74, 0x63, 0x68, 0, 0x16, 0, 0, 0, 3, 0x30, 0, 0xe, 0, 0, 0, 0x10, 0x5f, 0x69, 0x64, 0, 1, 0,
+    0, 0, 0, 0, 0x12, 0x69, 0x64, 0, 0, 0, 0, 0, 0, 0, 0, 0, 2, 0x6e, 0x73, 0, 4, 0, 0, 0, 0x74,
+    0x2e, 0x63, 0, 0, 0x10, 0x6f, 0x6b, 0, 1, 0, 0, 0, 0,
+];
+
+/// `{insert: "c", documents: [{_id: "1"}], $db: "t"}` with requestID 7.
+const INSERT_TEXT: [u8; 86] = [
+    0x56, 0, 0, 0, 7, 0, 0, 0, 0, 0, 0, 0, 0xdd, 7, 0, 0, 0, 0, 0, 0, 0, 0x41, 0, 0, 0, 2, 0x69,
+    0x6e, 0x73, 0x65, 0x72, 0x74, 0, 2, 0, 0, 0, 0x63, 0, 4, 0x64, 0x6f, 0x63, 0x75, 0x6d, 0x65,
+    0x6e, 0x74, 0x73, 0, 0x18, 0, 0, 0, 3, 0x30, 0, 0x10, 0, 0, 0, 2, 0x5f, 0x69, 0x64, 0, 2, 0, 0,
+    0, 0x31, 0, 0, 0, 2, 0x24, 0x64, 0x62, 0, 2, 0, 0, 0, 0x74, 0, 0,
+];
+
+/// `{n: 0, writeErrors: [{index: 0, code: 11000, errmsg: "duplicate key"}], ok: 1}`.
+const DUPLICATE: [u8; 93] = [
+    0x5d, 0, 0, 0, 0x10, 0x6e, 0, 0, 0, 0, 0, 4, 0x77, 0x72, 0x69, 0x74, 0x65, 0x45, 0x72, 0x72,
+    0x6f, 0x72, 0x73, 0, 0x3c, 0, 0, 0, 3, 0x30, 0, 0x34, 0, 0, 0, 0x10, 0x69, 0x6e, 0x64, 0x65,
+    0x78, 0, 0, 0, 0, 0, 0x10, 0x63, 0x6f, 0x64, 0x65, 0, 0xf8, 0x2a, 0, 0, 2, 0x65, 0x72, 0x72,
+    0x6d, 0x73, 0x67, 0, 0xe, 0, 0, 0, 0x64, 0x75, 0x70, 0x6c, 0x69, 0x63, 0x61, 0x74, 0x65, 0x20,
+    0x6b, 0x65, 0x79, 0, 0, 0, 0x10, 0x6f, 0x6b, 0, 1, 0, 0, 0, 0,
+];
+
+/// `{cursor: {firstBatch: [{_id: 1}, {_id: "1"}], id: 0L, ns: "t.c"}, ok: 1}`.
+const BOTH: [u8; 103] = [
+    0x67, 0, 0, 0, 3, 0x63, 0x75, 0x72, 0x73, 0x6f, 0x72, 0, 0x52, 0, 0, 0, 4, 0x66, 0x69, 0x72,
+    0x73, 0x74, 0x42, 0x61, 0x74, 0x63, 0x68, 0, 0x29, 0, 0, 0, 3, 0x30, 0, 0xe, 0, 0, 0, 0x10,
+    0x5f, 0x69, 0x64, 0, 1, 0, 0, 0, 0, 3, 0x31, 0, 0x10, 0, 0, 0, 2, 0x5f, 0x69, 0x64, 0, 2, 0, 0,
+    0, 0x31, 0, 0, 0, 0x12, 0x69, 0x64, 0, 0, 0, 0, 0, 0, 0, 0, 0, 2, 0x6e, 0x73, 0, 4, 0, 0, 0,
+    0x74, 0x2e, 0x63, 0, 0, 0x10, 0x6f, 0x6b, 0, 1, 0, 0, 0, 0,
+];
+
+/// The header of the third reply, of 114 bytes, to requestID 7.
+const THIRD: [u8; 21] = [
+    0x72, 0, 0, 0, 3, 0, 0, 0, 7, 0, 0, 0, 0xdd, 7, 0, 0, 0, 0, 0, 0, 0,
+];
+
+/// The header of the fourth reply, of 124 bytes, to requestID 8.
+const FOURTH: [u8; 21] = [
+    0x7c, 0, 0, 0, 4, 0, 0, 0, 8, 0, 0, 0, 0xdd, 7, 0, 0, 0, 0, 0, 0, 0,
+];
+
+/// `{insert: "c", documents: [{_id: 1, a: 1.0}], $db: "t"}` with requestID 7; `a` is a double.
+const INSERT_DOUBLE: [u8; 95] = [
+    0x5f, 0, 0, 0, 7, 0, 0, 0, 0, 0, 0, 0, 0xdd, 7, 0, 0, 0, 0, 0, 0, 0, 0x4a, 0, 0, 0, 2, 0x69,
+    0x6e, 0x73, 0x65, 0x72, 0x74, 0, 2, 0, 0, 0, 0x63, 0, 4, 0x64, 0x6f, 0x63, 0x75, 0x6d, 0x65,
+    0x6e, 0x74, 0x73, 0, 0x21, 0, 0, 0, 3, 0x30, 0, 0x19, 0, 0, 0, 0x10, 0x5f, 0x69, 0x64, 0, 1, 0,
+    0, 0, 1, 0x61, 0, 0, 0, 0, 0, 0, 0, 0xf0, 0x3f, 0, 0, 2, 0x24, 0x64, 0x62, 0, 2, 0, 0, 0, 0x74,
+    0, 0,
+];
+
+/// `{ok: 0, errmsg: "unsupported BSON type double", code: 2, codeName: "BadValue"}`, the first reply, to requestID 7.
+const UNSUPPORTED: [u8; 108] = [
+    0x6c, 0, 0, 0, 1, 0, 0, 0, 7, 0, 0, 0, 0xdd, 7, 0, 0, 0, 0, 0, 0, 0, 0x57, 0, 0, 0, 0x10, 0x6f,
+    0x6b, 0, 0, 0, 0, 0, 2, 0x65, 0x72, 0x72, 0x6d, 0x73, 0x67, 0, 0x1d, 0, 0, 0, 0x75, 0x6e, 0x73,
+    0x75, 0x70, 0x70, 0x6f, 0x72, 0x74, 0x65, 0x64, 0x20, 0x42, 0x53, 0x4f, 0x4e, 0x20, 0x74, 0x79,
+    0x70, 0x65, 0x20, 0x64, 0x6f, 0x75, 0x62, 0x6c, 0x65, 0, 0x10, 0x63, 0x6f, 0x64, 0x65, 0, 2, 0,
+    0, 0, 2, 0x63, 0x6f, 0x64, 0x65, 0x4e, 0x61, 0x6d, 0x65, 0, 9, 0, 0, 0, 0x42, 0x61, 0x64, 0x56,
+    0x61, 0x6c, 0x75, 0x65, 0, 0,
+];
+
+#[test]
+fn a_document_goes_in_and_comes_out_however_the_input_is_cut(rt: HostRuntime) -> Result<(), Fail> {
+    let input = joined(rt.alloc(), &[&INSERT, &FIND])?;
+    let answers = joined(rt.alloc(), &[&INSERTED, &FOUND])?;
+    for cut in [1, 3, 65_536] {
+        let came = outcome(rt.alloc(), &["pipe"], input.as_slice(), cut, &[], &[])?;
+        assert_eq!(rt; came.written.as_slice(), answers.as_slice(), "cut to {cut}");
+    }
+    Ok(())
+}
+
+#[test]
+fn an_equal_id_is_a_write_error(rt: HostRuntime) -> Result<(), Fail> {
+    let input = joined(rt.alloc(), &[&INSERT, &INSERT_TEXT, &INSERT, &FIND])?;
+    let mut second = INSERTED;
+    second[4] = 2;
+    let answers = joined(
+        rt.alloc(),
+        &[&INSERTED, &second, &THIRD, &DUPLICATE, &FOURTH, &BOTH],
+    )?;
+    let came = piped(rt.alloc(), input.as_slice())?;
+    assert_eq!(rt; came.written.as_slice(), answers.as_slice());
+    Ok(())
+}
+
+#[test]
+fn an_unsupported_type_is_told_by_name_and_the_next_message_is_answered(
+    rt: HostRuntime,
+) -> Result<(), Fail> {
+    let input = joined(rt.alloc(), &[&INSERT_DOUBLE, &PING])?;
+    let mut second = OK;
+    second[4] = 2;
+    let answers = joined(rt.alloc(), &[&UNSUPPORTED, &second])?;
+    let came = piped(rt.alloc(), input.as_slice())?;
+    assert_eq!(rt; came.written.as_slice(), answers.as_slice());
+    Ok(())
+}
+
+/// So many inserts, and a find.
+fn many(alloc: Global, count: u8) -> Result<Bytes, NoMemory> {
+    let mut input = Bytes::new(alloc);
+    for id in 0..count {
+        let mut insert = INSERT;
+        insert[66] = id;
+        input.extend(&insert)?;
+    }
+    input.extend(&FIND)?;
+    Ok(input)
+}
+
+#[test]
+fn a_find_shows_at_most_101_documents(rt: HostRuntime) -> Result<(), Fail> {
+    // A reply to an insert has 41 bytes, a batch of 101 documents 1,897, and the refusal 99.
+    for (count, len) in [(101, 4_141 + 1_897), (102, 4_182 + 99)] {
+        let input = many(rt.alloc(), count)?;
+        let came = piped(rt.alloc(), input.as_slice())?;
+        assert_eq!(rt; came.written.len(), len, "{count} documents");
+    }
+    Ok(())
+}
+
+/// The values of fields, as the rows write them.
+#[derive(Clone, Copy)]
+enum Given {
+    Number(i32),
+    Text(&'static str),
+    /// Documents with one field, a number.
+    Documents(&'static [(&'static str, i32)]),
+    /// A document with one field `a`.
+    Filter,
+}
+
+type Fields = &'static [(&'static str, Given)];
+
+const COLL: Given = Given::Text("c");
+
+const DB: Given = Given::Text("t");
+
+const TWO: Given = Given::Documents(&[("_id", 1), ("_id", 2)]);
+
+const NO_ID: Given = Given::Documents(&[("a", 1)]);
+
+/// What is told of a refusal: the code, its name and the sentence.
+type Told = (i32, &'static str, &'static str);
+
+const MISSING: Told = (9, "FailedToParse", "field missing");
+
+const TWICE: Told = (9, "FailedToParse", "field given twice");
+
+const WRONG_TYPE: Told = (14, "TypeMismatch", "field has the wrong type");
+
+const INVALID: Told = (73, "InvalidNamespace", "invalid namespace");
+
+const NO_COMMAND: Told = (59, "CommandNotFound", "no such command");
+
+const NOT_SUPPORTED: Told = (238, "NotImplemented", "not supported");
+
+const REFUSED: [(Fields, Told); 13] = [
+    (&[("find", COLL)], MISSING),
+    (&[("find", COLL), ("$db", Given::Number(1))], WRONG_TYPE),
+    (&[("find", COLL), ("$db", Given::Text("a b"))], INVALID),
+    (&[("find", Given::Text("")), ("$db", DB)], INVALID),
+    (&[("find", Given::Text("$x")), ("$db", DB)], INVALID),
+    (&[("find", Given::Text("system.x")), ("$db", DB)], INVALID),
+    (&[("find", Given::Text(".x")), ("$db", DB)], INVALID),
+    (
+        &[("insert", COLL), ("documents", DB), ("$db", DB)],
+        WRONG_TYPE,
+    ),
+    (&[("find", COLL), ("$db", DB), ("find", COLL)], TWICE),
+    (&[("pong", COLL), ("$db", DB)], NO_COMMAND),
+    (
+        &[("find", COLL), ("filter", Given::Filter), ("$db", DB)],
+        NOT_SUPPORTED,
+    ),
+    (
+        &[("insert", COLL), ("documents", TWO), ("$db", DB)],
+        NOT_SUPPORTED,
+    ),
+    (
+        &[("insert", COLL), ("documents", NO_ID), ("$db", DB)],
+        NOT_SUPPORTED,
+    ),
+];
+
+fn number(alloc: Global, name: &str, number: i32) -> Result<Document, NoMemory> {
+    let mut doc = Document::new(alloc);
+    let name = Text::of(alloc, name)?;
+    doc.push(name, Value::Int(number)).map_err(|_| NoMemory)?;
+    Ok(doc)
+}
+
+fn documents(alloc: Global, rows: &[(&'static str, i32)]) -> Result<Value, NoMemory> {
+    let mut items = List::new(alloc);
+    for (name, value) in rows {
+        let doc = number(alloc, name, *value)?;
+        items.push(Value::Doc(doc)).map_err(|_| NoMemory)?;
+    }
+    Ok(Value::Arr(items))
+}
+
+fn value(alloc: Global, given: Given) -> Result<Value, NoMemory> {
+    match given {
+        Given::Number(number) => Ok(Value::Int(number)),
+        Given::Text(words) => Ok(Value::Str(Text::of(alloc, words)?)),
+        Given::Documents(rows) => documents(alloc, rows),
+        Given::Filter => Ok(Value::Doc(number(alloc, "a", 1)?)),
+    }
+}
+
+/// A message with that body.
+fn message(alloc: Global, fields: Fields) -> Result<Bytes, NoMemory> {
+    let mut body = Document::new(alloc);
+    for (name, given) in fields {
+        let name = Text::of(alloc, name)?;
+        let value = value(alloc, *given)?;
+        body.push(name, value).map_err(|_| NoMemory)?;
+    }
+    let mut bytes = Bytes::of(alloc, &PING[..21])?;
+    write(&body, &mut bytes)?;
+    let len = bytes.len() as u32;
+    bytes.overwrite(0, &len.to_le_bytes());
+    Ok(bytes)
+}
+
+fn text(alloc: Global, words: &str) -> Result<Value, NoMemory> {
+    Ok(Value::Str(Text::of(alloc, words)?))
+}
+
+fn push(alloc: Global, doc: &mut Document, name: &str, value: Value) -> Result<(), NoMemory> {
+    let name = Text::of(alloc, name)?;
+    doc.push(name, value).map_err(|_| NoMemory)
+}
+
+/// The bytes of the error document.
+fn error(alloc: Global, told: Told) -> Result<Bytes, NoMemory> {
+    let (code, code_name, sentence) = told;
+    let mut doc = Document::new(alloc);
+    push(alloc, &mut doc, "ok", Value::Int(0))?;
+    push(alloc, &mut doc, "errmsg", text(alloc, sentence)?)?;
+    push(alloc, &mut doc, "code", Value::Int(code))?;
+    push(alloc, &mut doc, "codeName", text(alloc, code_name)?)?;
+    let mut bytes = Bytes::new(alloc);
+    write(&doc, &mut bytes)?;
+    Ok(bytes)
+}
+
+#[test]
+fn a_refusal_tells_its_code_and_its_sentence(rt: HostRuntime) -> Result<(), Fail> {
+    for (place, (fields, told)) in REFUSED.iter().enumerate() {
+        let input = message(rt.alloc(), fields)?;
+        let expected = error(rt.alloc(), *told)?;
+        let came = piped(rt.alloc(), input.as_slice())?;
+        assert!(rt;
+            came.written.as_slice().ends_with(expected.as_slice()),
+            "row {place}"
+        );
+    }
+    Ok(())
+}

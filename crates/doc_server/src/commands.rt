@@ -1,6 +1,6 @@
 use crate::tests::{OK, PING, joined, outcome, piped};
-use bson_values::{Bytes, Document, List, NoMemory, Text, Value};
-use bson_wire::write;
+use bson_values::{Bytes, Document, List, NoMemory, Room, Text, Value};
+use bson_wire::write_in;
 use std::alloc::Global;
 use std::test::Fail;
 
@@ -126,6 +126,82 @@ fn an_unsupported_type_is_told_by_name_and_the_next_message_is_answered(
     Ok(())
 }
 
+/// The values of an `_id`, as the rows write them.
+#[derive(Clone, Copy)]
+enum Id {
+    Int(i32),
+    Long(i64),
+    Ints(&'static [(&'static str, i32)]),
+    Longs(&'static [(&'static str, i64)]),
+}
+
+fn ints(alloc: Global, pairs: &[(&'static str, i32)]) -> Result<Value, NoMemory> {
+    let mut doc = Document::new(alloc);
+    for (name, number) in pairs {
+        push(alloc, &mut doc, name, Value::Int(*number))?;
+    }
+    Ok(Value::Doc(doc))
+}
+
+fn longs(alloc: Global, pairs: &[(&'static str, i64)]) -> Result<Value, NoMemory> {
+    let mut doc = Document::new(alloc);
+    for (name, number) in pairs {
+        push(alloc, &mut doc, name, Value::Long(*number))?;
+    }
+    Ok(Value::Doc(doc))
+}
+
+fn id_value(alloc: Global, id: Id) -> Result<Value, NoMemory> {
+    match id {
+        Id::Int(number) => Ok(Value::Int(number)),
+        Id::Long(number) => Ok(Value::Long(number)),
+        Id::Ints(pairs) => ints(alloc, pairs),
+        Id::Longs(pairs) => longs(alloc, pairs),
+    }
+}
+
+/// An array of a document with that `_id`.
+fn only(alloc: Global, id: Id) -> Result<Value, NoMemory> {
+    let id = id_value(alloc, id)?;
+    let mut doc = Document::new(alloc);
+    push(alloc, &mut doc, "_id", id)?;
+    let mut items = List::new(alloc);
+    items.push(Value::Doc(doc)).map_err(|_| NoMemory)?;
+    Ok(Value::Arr(items))
+}
+
+fn insert_of(alloc: Global, id: Id) -> Result<Bytes, NoMemory> {
+    let documents = only(alloc, id)?;
+    let mut body = Document::new(alloc);
+    push(alloc, &mut body, "insert", text(alloc, "c")?)?;
+    push(alloc, &mut body, "documents", documents)?;
+    push(alloc, &mut body, "$db", text(alloc, "t")?)?;
+    with_header(alloc, &body)
+}
+
+#[test]
+fn an_int_and_a_long_of_one_number_are_one_id(rt: HostRuntime) -> Result<(), Fail> {
+    // A reply to an insert has 41 bytes, that with a write error 114.
+    let rows: [(Id, Id, usize); 4] = [
+        (Id::Int(1), Id::Long(1), 41 + 114),
+        (Id::Int(1), Id::Long(2), 41 + 41),
+        (Id::Ints(&[("a", 1)]), Id::Longs(&[("a", 1)]), 41 + 114),
+        (
+            Id::Ints(&[("a", 1), ("b", 2)]),
+            Id::Ints(&[("b", 2), ("a", 1)]),
+            41 + 41,
+        ),
+    ];
+    for (place, (one, other, len)) in rows.iter().enumerate() {
+        let first = insert_of(rt.alloc(), *one)?;
+        let second = insert_of(rt.alloc(), *other)?;
+        let input = joined(rt.alloc(), &[first.as_slice(), second.as_slice()])?;
+        let came = piped(rt.alloc(), input.as_slice())?;
+        assert_eq!(rt; came.written.len(), *len, "row {place}");
+    }
+    Ok(())
+}
+
 /// So many inserts, and a find.
 fn many(alloc: Global, count: u8) -> Result<Bytes, NoMemory> {
     let mut input = Bytes::new(alloc);
@@ -246,8 +322,23 @@ fn message(alloc: Global, fields: Fields) -> Result<Bytes, NoMemory> {
         let value = value(alloc, *given)?;
         body.push(name, value).map_err(|_| NoMemory)?;
     }
-    let mut bytes = Bytes::of(alloc, &PING[..21])?;
-    write(&body, &mut bytes)?;
+    with_header(alloc, &body)
+}
+
+/// The bytes of a small document.
+fn spelled(alloc: Global, doc: &Document) -> Result<Bytes, NoMemory> {
+    let size = doc.size();
+    if size > 10_000 {
+        return Err(NoMemory);
+    }
+    let mut room = Room::new(alloc, size)?;
+    write_in(doc, &mut room);
+    Ok(room.bytes())
+}
+
+fn with_header(alloc: Global, body: &Document) -> Result<Bytes, NoMemory> {
+    let spelled = spelled(alloc, body)?;
+    let mut bytes = joined(alloc, &[&PING[..21], spelled.as_slice()])?;
     let len = bytes.len() as u32;
     bytes.overwrite(0, &len.to_le_bytes());
     Ok(bytes)
@@ -270,9 +361,7 @@ fn error(alloc: Global, told: Told) -> Result<Bytes, NoMemory> {
     push(alloc, &mut doc, "errmsg", text(alloc, sentence)?)?;
     push(alloc, &mut doc, "code", Value::Int(code))?;
     push(alloc, &mut doc, "codeName", text(alloc, code_name)?)?;
-    let mut bytes = Bytes::new(alloc);
-    write(&doc, &mut bytes)?;
-    Ok(bytes)
+    spelled(alloc, &doc)
 }
 
 #[test]

@@ -1,0 +1,71 @@
+#!/usr/bin/env python3
+"""Inserts one document through `ferretd pipe` and finds it again. The program's path is the one argument."""
+
+import struct
+import subprocess
+import sys
+
+
+# ---- BSON: documents with int32s, strings, documents and arrays, which is all that these messages need
+
+def spell(document):
+    inside = b""
+    for name, value in document.items():
+        name = name.encode() + b"\0"
+        if isinstance(value, int):
+            inside += b"\x10" + name + struct.pack("<i", value)
+        elif isinstance(value, str):
+            text = value.encode() + b"\0"
+            inside += b"\x02" + name + struct.pack("<i", len(text)) + text
+        elif isinstance(value, list):
+            inside += b"\x04" + name + spell({str(place): item for place, item in enumerate(value)})
+        else:
+            inside += b"\x03" + name + spell(value)
+    return struct.pack("<i", len(inside) + 5) + inside + b"\0"
+
+
+def read(bytes_, place=0):
+    """The document at a place, and the place behind it."""
+    end = place + struct.unpack_from("<i", bytes_, place)[0] - 1
+    document, place = {}, place + 4
+    while place < end:
+        code = bytes_[place]
+        stop = bytes_.index(0, place)
+        name, place = bytes_[place + 1:stop].decode(), stop + 1
+        if code == 0x10:
+            value, place = struct.unpack_from("<i", bytes_, place)[0], place + 4
+        elif code == 0x12:
+            value, place = struct.unpack_from("<q", bytes_, place)[0], place + 8
+        elif code == 0x02:
+            size = struct.unpack_from("<i", bytes_, place)[0]
+            value, place = bytes_[place + 4:place + 3 + size].decode(), place + 4 + size
+        else:
+            value, place = read(bytes_, place)
+            if code == 0x04:
+                value = list(value.values())
+        document[name] = value
+    return document, end + 1
+
+
+# ---- messages: OP_MSG with one body
+
+def message(number, body):
+    document = spell(body)
+    return struct.pack("<iiiiIB", len(document) + 21, number, 0, 2013, 0, 0) + document
+
+
+def replies(written):
+    place = 0
+    while place < len(written):
+        yield read(written, place + 21)[0]
+        place += struct.unpack_from("<i", written, place)[0]
+
+
+bodies = [
+    {"insert": "people", "documents": [{"_id": 1, "name": "Ada"}], "$db": "town"},
+    {"insert": "people", "documents": [{"_id": 1, "name": "Eve"}], "$db": "town"},
+    {"find": "people", "$db": "town"},
+]
+asked = b"".join(message(number, body) for number, body in enumerate(bodies, 1))
+for reply in replies(subprocess.run([sys.argv[1], "pipe"], input=asked, stdout=subprocess.PIPE, check=True).stdout):
+    print(reply)

@@ -338,10 +338,13 @@ fn spelled(alloc: Global, doc: &Document) -> Result<Bytes, NoMemory> {
 
 fn with_header(alloc: Global, body: &Document) -> Result<Bytes, NoMemory> {
     let spelled = spelled(alloc, body)?;
-    let mut bytes = joined(alloc, &[&PING[..21], spelled.as_slice()])?;
-    let len = bytes.len() as u32;
-    bytes.overwrite(0, &len.to_le_bytes());
-    Ok(bytes)
+    let Ok(len) = u32::try_from(spelled.len().saturating_add(21)) else {
+        return Err(NoMemory);
+    };
+    joined(
+        alloc,
+        &[&len.to_le_bytes(), &PING[4..21], spelled.as_slice()],
+    )
 }
 
 fn text(alloc: Global, words: &str) -> Result<Value, NoMemory> {

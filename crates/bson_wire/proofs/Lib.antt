@@ -15,5 +15,5 @@ pub mod Helds
 pub mod Sizes
 pub mod Written
 pub mod Lengths
-pub mod Places
+pub mod Bounds
 pub mod Measured

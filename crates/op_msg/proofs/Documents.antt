@@ -8,7 +8,7 @@ use Rattle.bson_wire.specs.declared.refused.ReadRefused.{ReadRefused}
 use Rattle.bson_wire.specs.declared.refused.ReadRefused.TheVariants.{Malformed, NoMemory}
 use Rattle.bson_wire.specs.Reading.{document_at, first, fault_of, Tells}
 use Rattle.bson_wire.proofs.Documents.{document_again}
-use Rattle.bson_wire.proofs.Places.{NotPast, document-not}
+use Rattle.bson_wire.proofs.Bounds.{NotPast, document-not}
 use Rattle.bson_wire.proofs.Values.{Doc}
 use Rattle.op_msg.specs.declared.message.BadKind.TheVariants.{Document}
 use Rattle.op_msg.specs.Reading.{in_message}

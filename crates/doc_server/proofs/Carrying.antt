@@ -1,6 +1,6 @@
 -- One message: from its command to what it made of the store.
-use Rattle.std.proofs.Common.{◌≡◌, ◌⊎◌, inl, inr, ℕ, ℤ, ◌+◌, ◌≤◌, ◌^◌, ◌-◌, Bool, true, false, List, [], ◌∷◌, length, take, refl, sym, ap, subst, ◌∙◌, arith}
-use Rattle.std.specs.Prelude.{Option, None, Some, Result, Ok, Err, IfOk, OnErr, min}
+use Rattle.std.proofs.Common.{◌≡◌, ℕ, ℤ, ◌+◌, ◌≤◌, ◌^◌, ◌-◌, true, false, List, [], ◌∷◌, length, take, refl, sym, ap, subst, arith}
+use Rattle.std.specs.Prelude.{None, Some, Result, Ok, Err, IfOk, OnErr, min}
 use Rattle.outside.specs.Told.{Grows}
 use Rattle.history_lock.specs.declared.entry.Who.{Who}
 use Rattle.case_tables.specs.declared.kinds.TheConstants.{NOT_SUPPORTED}
@@ -10,11 +10,10 @@ use Rattle.bson_values.specs.declared.value.Value.{Value}
 use Rattle.op_msg.specs.declared.message.Message.{Message}
 use Rattle.doc_model.specs.declared.op.Op.{Op}
 use Rattle.doc_model.specs.declared.op.Op.TheVariants as op
-use Rattle.doc_model.specs.declared.op.OpReply.TheVariants.{Inserted, Selected, Refused}
+use Rattle.doc_model.specs.declared.op.OpReply.TheVariants.{Selected, Refused}
 use Rattle.doc_model.specs.Store.{Store, docs_of, collection_of}
 use Rattle.doc_model.specs.Step.{step}
 use Rattle.doc_model.proofs.Inserts.{insert-refused}
-use Rattle.command_words.specs.declared.command.Command.{Command}
 use Rattle.command_words.specs.declared.command.Command.TheVariants as command
 use Rattle.command_words.specs.declared.refused.CommandRefused.{CommandRefused}
 use Rattle.command_words.specs.declared.refused.CommandRefused.TheVariants as refuse
@@ -22,7 +21,7 @@ use Rattle.command_words.specs.Refusal.{refusal, Tells}
 use Rattle.command_words.specs.Meaning.{command_of}
 use Rattle.doc_server.specs.Replies.{ok_document, error_document, refusal_document, batch_document, total_size, fit_a_batch}
 use Rattle.doc_server.specs.Answers.{answer}
-use Rattle.doc_server.specs.Script.{ops_of, AreReplied}
+use Rattle.doc_server.specs.Script.{ops_of}
 use Rattle.doc_server.specs.Carried.{put_after, Performed, Answered}
 use Rattle.doc_server.specs.Talk.{Scene}
 use Rattle.doc_server.specs.Steps.{Dealt}

@@ -1,13 +1,12 @@
 -- How long the documents of replies are.
-use Rattle.std.proofs.Common.{◌≡◌, ℕ, ℤ, pos, suc, ◌+◌, ◌*◌, ◌^◌, ◌<◌, ◌≤◌, Bool, true, false, cond, leb, eqb, ◌&&◌, List, [], ◌∷◌, ◌++◌, length, map, refl, sym, ap, ◌∙◌, arith, length-append}
-use Rattle.std.specs.Prelude.{codes, nat_le, Option, None, Some}
-use Rattle.std.specs.Fmt.{decimal}
+use Rattle.std.proofs.Common.{◌≡◌, ℕ, pos, ◌+◌, ◌*◌, ◌≤◌, Bool, true, false, cond, leb, eqb, ◌&&◌, List, [], ◌∷◌, ◌++◌, length, map, refl, sym, ◌∙◌, arith, length-append}
+use Rattle.std.specs.Prelude.{codes, Option, None, Some}
 use Rattle.std.proofs.lemmas.Bool.{leb-true}
 use Rattle.bson_values.specs.declared.pairs.Pair.{Pair}
 use Rattle.bson_values.specs.declared.space.Space.{Space}
 use Rattle.bson_values.specs.declared.value.Value.{Value}
 use Rattle.bson_values.specs.declared.value.Value.TheVariants as value
-use Rattle.bson_values.specs.Measures.{items_size, value_size, size}
+use Rattle.bson_values.specs.Measures.{items_size, value_size}
 use Rattle.bson_values.proofs.Totals.{digits_few, size_items}
 use Rattle.bson_wire.specs.Spelling.{spell, held}
 use Rattle.bson_wire.proofs.Measured.{value_measured, measured}
@@ -18,7 +17,6 @@ use Rattle.case_tables.specs.Refusals.{code_of, code_name_of, text_of}
 use Rattle.case_tables.specs.Types.{type_name_of}
 use Rattle.bson_wire.specs.declared.foreign.Foreign.{Foreign}
 use Rattle.case_tables.proofs.Bounds.{text_short, name_short, type_name_short}
-use Rattle.command_words.specs.Namespace.{is_collection_name}
 use Rattle.command_words.specs.Meaning.{IsNamed}
 use Rattle.doc_server.specs.Replies.{field, ok_document, error_saying, error_document, sentence_of, refusal_document, inserted_document, item_error, refused_document, namespace, cursor_document, batch_document, total_size, fit_a_batch}
 

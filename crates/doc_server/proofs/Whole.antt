@@ -1,5 +1,5 @@
 -- A connection over a fresh link, and its whole input.
-use Rattle.std.proofs.Common.{◌≡◌, ℕ, ◌⊎◌, inl, inr, List, [], ◌∷◌, ◌++◌, length, take, refl, sym, ap, subst, ◌∙◌, arith}
+use Rattle.std.proofs.Common.{◌≡◌, ℕ, ◌⊎◌, inl, inr, List, [], ◌++◌, take, sym, ap, subst, ◌∙◌}
 use Rattle.std.specs.Prelude.{Option, None, Some}
 use Rattle.outside.specs.Told.{Tells, Grows, Shrinks}
 use Rattle.doc_server.specs.declared.why.Why.{Why}

@@ -11,7 +11,7 @@ use Rattle.doc_model.specs.declared.op.Op.TheVariants as op
 use Rattle.doc_model.specs.declared.op.OpReply.{OpReply}
 use Rattle.doc_model.specs.declared.op.OpReply.TheVariants.{Inserted, Selected, Refused}
 use Rattle.command_words.specs.declared.command.Command.{Command}
-use Rattle.command_words.specs.declared.command.Command.TheVariants.{Ping, Insert, Find}
+use Rattle.command_words.specs.declared.command.Command.TheVariants.{Insert, Find}
 use Rattle.command_words.specs.Refusal.{refusal}
 use Rattle.command_words.specs.Meaning.{command_of}
 use Rattle.doc_server.specs.Replies.{ok_document, error_document, refusal_document, inserted_document, refused_document, batch_document, fit_a_batch}

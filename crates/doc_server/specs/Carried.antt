@@ -7,7 +7,7 @@ use Rattle.op_msg.specs.declared.message.Message.{Message}
 use Rattle.op_msg.specs.Reply.{reply}
 use Rattle.doc_model.specs.declared.op.Op.{Op}
 use Rattle.doc_model.specs.declared.op.OpReply.{OpReply}
-use Rattle.doc_model.specs.declared.op.OpReply.TheVariants.{Inserted, Selected, Refused, NoMemory}
+use Rattle.doc_model.specs.declared.op.OpReply.TheVariants.{Selected}
 use Rattle.doc_model.specs.Store.{Store}
 use Rattle.doc_model.specs.Step.{step}
 use Rattle.doc_model.specs.Run.{run}

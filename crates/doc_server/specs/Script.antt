@@ -1,6 +1,5 @@
 -- The script of a connection: its executed messages, what its operations were replied, and what is written for them.
 use Rattle.std.specs.Prelude.{ℕ, ◌+◌, List, [], ◌∷◌, ◌++◌, Option, None, Some}
-use Rattle.history_lock.specs.declared.entry.Who.{Who}
 use Rattle.op_msg.specs.declared.message.Message.{Message}
 use Rattle.doc_model.specs.declared.op.Op.{Op}
 use Rattle.doc_model.specs.declared.op.OpReply.{OpReply}

@@ -1,5 +1,5 @@
 -- What one step of a conversation does. Links between contracts; nobody has to read them for the main clause.
-use Rattle.std.specs.Prelude.{ℕ, ◌≡◌, ◌≢◌, ◌+◌, ◌≤◌, ◌<◌, ◌^◌, List, [], ◌∷◌, ◌++◌, length, take, Option, Result, Ok, Err}
+use Rattle.std.specs.Prelude.{ℕ, ◌≡◌, ◌≢◌, ◌+◌, ◌≤◌, ◌<◌, ◌^◌, List, [], ◌∷◌, ◌++◌, length, take, Result, Ok, Err}
 use Rattle.outside.specs.Told.{Grows, Shrinks}
 use Rattle.op_msg.specs.declared.message.Message.{Message}
 use Rattle.doc_model.specs.declared.op.OpReply.{OpReply}

@@ -1,4 +1,4 @@
-use Rattle.std.proofs.Common.{refl, sym, ap, ◌∙◌}
+use Rattle.std.proofs.Common.{refl, sym, ◌∙◌}
 use Rattle.doc_server.proofs.Carrying.{refused-tells, if-ok, answered-refusal, answered-ping, answered-insert, answered-find}
 use Rattle.doc_server.proofs.answers.answer.Goals as goal
 

@@ -3,6 +3,7 @@ ghost use Rattle.bson_wire.specs.Reading.{Gives, is_foreign, past_at, past_text_
 
 use crate::refused::ReadRefused;
 use crate::scalars::{length, part, text_part};
+use case_tables::type_byte;
 
 /// An element of a type of BSON 1.1 that no value has here: double, undefined, dbPointer, javascript, symbol, javascript with scope,
 /// decimal, minKey, maxKey.
@@ -20,7 +21,15 @@ pub(crate) fn is_foreign(code: u8) -> bool
 {
     matches!(
         code,
-        0x01 | 0x06 | 0x0c | 0x0d | 0x0e | 0x0f | 0x13 | 0x7f | 0xff
+        type_byte!(double)
+            | type_byte!(undefined)
+            | type_byte!(dbPointer)
+            | type_byte!(javascript)
+            | type_byte!(symbol)
+            | type_byte!(javascriptWithScope)
+            | type_byte!(decimal)
+            | type_byte!(maxKey)
+            | type_byte!(minKey)
     )
 }
 
@@ -59,18 +68,18 @@ pub(crate) fn past_foreign(code: u8, bytes: &[u8], place: u64) -> Result<&[u8], 
     ensures shorter { IfOk result (λ it. length it.now ≤ length bytes.now) }
 {
     match code {
-        0x01 => past(bytes, 8, place),
-        0x06 => Ok(bytes),
-        0x0c => {
+        type_byte!(double) => past(bytes, 8, place),
+        type_byte!(undefined) => Ok(bytes),
+        type_byte!(dbPointer) => {
             let rest = past_text(bytes, place)?;
             past(rest, 12, place)
         }
-        0x0d => past_text(bytes, place),
-        0x0e => past_text(bytes, place),
-        0x0f => past_scoped(bytes, place),
-        0x13 => past(bytes, 16, place),
-        0x7f => Ok(bytes),
-        0xff => Ok(bytes),
+        type_byte!(javascript) => past_text(bytes, place),
+        type_byte!(symbol) => past_text(bytes, place),
+        type_byte!(javascriptWithScope) => past_scoped(bytes, place),
+        type_byte!(decimal) => past(bytes, 16, place),
+        type_byte!(maxKey) => Ok(bytes),
+        type_byte!(minKey) => Ok(bytes),
         _ => Err(ReadRefused::Malformed(place)),
     }
 }

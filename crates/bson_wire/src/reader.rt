@@ -10,6 +10,7 @@ use crate::foreign::{Foreign, earlier, is_foreign, past_foreign};
 use crate::refused::ReadRefused;
 use crate::scalars::{ended, length, name, part, scalar};
 use bson_values::{Document, List, Text, Value, head, tail};
+use case_tables::type_byte;
 use std::alloc::Global;
 
 /// The document at the front of some bytes.
@@ -41,11 +42,11 @@ fn value(
     ensures near { IfOk result (λ it. Before end it.1) }
 {
     match code {
-        0x03 => {
+        type_byte!(object) => {
             let (doc, foreign, rest) = document(alloc, bytes, end, levels)?;
             Ok((Some(Value::Doc(doc)), foreign, rest))
         }
-        0x04 => {
+        type_byte!(array) => {
             let (items, foreign, rest) = array(alloc, bytes, end, levels)?;
             Ok((Some(Value::Arr(items)), foreign, rest))
         }

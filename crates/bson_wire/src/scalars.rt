@@ -4,6 +4,7 @@ ghost use Rattle.bson_wire.specs.Reading.{Gives, number_at, long_at, length_at, 
 use crate::refused::ReadRefused;
 use bson_values::{Binary, Bytes, Regex, Text, Value, head, tail};
 use byteorder::{ByteOrder, LittleEndian};
+use case_tables::type_byte;
 use std::alloc::Global;
 use std::str::from_utf8;
 
@@ -182,25 +183,25 @@ pub(crate) fn scalar(
     ensures shorter { IfOk result (λ it. length it.1.now ≤ length bytes.now) }
 {
     match code {
-        0x02 => string(alloc, bytes, place),
-        0x05 => binary(alloc, bytes, place),
-        0x07 => id(bytes, place),
-        0x08 => truth(bytes, place),
-        0x09 => {
+        type_byte!(string) => string(alloc, bytes, place),
+        type_byte!(binData) => binary(alloc, bytes, place),
+        type_byte!(objectId) => id(bytes, place),
+        type_byte!(bool) => truth(bytes, place),
+        type_byte!(date) => {
             let (bits, rest) = long(bytes, place)?;
             Ok((Value::Date(bits.cast_signed()), rest))
         }
-        0x0a => Ok((Value::Null, bytes)),
-        0x0b => regex(alloc, bytes, place),
-        0x10 => {
+        type_byte!(null) => Ok((Value::Null, bytes)),
+        type_byte!(regex) => regex(alloc, bytes, place),
+        type_byte!(int) => {
             let (bits, rest) = number(bytes, place)?;
             Ok((Value::Int(bits.cast_signed()), rest))
         }
-        0x11 => {
+        type_byte!(timestamp) => {
             let (bits, rest) = long(bytes, place)?;
             Ok((Value::Stamp(bits), rest))
         }
-        0x12 => {
+        type_byte!(long) => {
             let (bits, rest) = long(bytes, place)?;
             Ok((Value::Long(bits.cast_signed()), rest))
         }

@@ -6,6 +6,7 @@ ghost use Rattle.bson_wire.specs.Spelling.{int32, int64, cstring, string, binary
 
 use bson_values::{Bytes, Document, List, NoMemory, Value};
 use byteorder::{ByteOrder, LittleEndian};
+use case_tables::type_byte;
 use itoa::Buffer;
 
 fn put_int32(number: u32, out: &mut Bytes) -> Result<(), NoMemory>
@@ -67,18 +68,18 @@ pub(crate) fn code(value: &Value) -> u8
     ensures { result ≡ (held value.now).0 }
 {
     match value {
-        Value::Str(_) => 0x02,
-        Value::Doc(_) => 0x03,
-        Value::Arr(_) => 0x04,
-        Value::Bin(_) => 0x05,
-        Value::Id(_) => 0x07,
-        Value::Bool(_) => 0x08,
-        Value::Date(_) => 0x09,
-        Value::Null => 0x0a,
-        Value::Regex(_) => 0x0b,
-        Value::Int(_) => 0x10,
-        Value::Stamp(_) => 0x11,
-        Value::Long(_) => 0x12,
+        Value::Str(_) => type_byte!(string),
+        Value::Doc(_) => type_byte!(object),
+        Value::Arr(_) => type_byte!(array),
+        Value::Bin(_) => type_byte!(binData),
+        Value::Id(_) => type_byte!(objectId),
+        Value::Bool(_) => type_byte!(bool),
+        Value::Date(_) => type_byte!(date),
+        Value::Null => type_byte!(null),
+        Value::Regex(_) => type_byte!(regex),
+        Value::Int(_) => type_byte!(int),
+        Value::Stamp(_) => type_byte!(timestamp),
+        Value::Long(_) => type_byte!(long),
     }
 }
 

@@ -8,29 +8,63 @@ macro_rules! table {
     };
 }
 
-/// The types of BSON 1.1: the type byte, and the name that `$type` has for it. Minkey's byte -1 is 255 here.
-pub const TYPES: CaseTable<21> = table! {
-    1 => "double",
-    2 => "string",
-    3 => "object",
-    4 => "array",
-    5 => "binData",
-    6 => "undefined",
-    7 => "objectId",
-    8 => "bool",
-    9 => "date",
-    10 => "null",
-    11 => "regex",
-    12 => "dbPointer",
-    13 => "javascript",
-    14 => "symbol",
-    15 => "javascriptWithScope",
-    16 => "int",
-    17 => "timestamp",
-    18 => "long",
-    19 => "decimal",
-    255 => "minKey",
-    127 => "maxKey",
+/// The type byte of a type of BSON 1.1, by the name that `$type` has for it: `type_byte!(string)` is `0x02`. It is a pattern or a value.
+/// Minkey's byte -1 is `0xff` here.
+#[macro_export]
+macro_rules! type_byte {
+    (double) => { 0x01 };
+    (string) => { 0x02 };
+    (object) => { 0x03 };
+    (array) => { 0x04 };
+    (binData) => { 0x05 };
+    (undefined) => { 0x06 };
+    (objectId) => { 0x07 };
+    (bool) => { 0x08 };
+    (date) => { 0x09 };
+    (null) => { 0x0a };
+    (regex) => { 0x0b };
+    (dbPointer) => { 0x0c };
+    (javascript) => { 0x0d };
+    (symbol) => { 0x0e };
+    (javascriptWithScope) => { 0x0f };
+    (int) => { 0x10 };
+    (timestamp) => { 0x11 };
+    (long) => { 0x12 };
+    (decimal) => { 0x13 };
+    (minKey) => { 0xff };
+    (maxKey) => { 0x7f };
+}
+
+/// Rows of the types of these names.
+macro_rules! types {
+    ($($name:ident,)*) => {
+        CaseTable { rows: [$(Case { code: type_byte!($name), name: stringify!($name) }),*] }
+    };
+}
+
+/// The types of BSON 1.1, each with its type byte and its name.
+pub const TYPES: CaseTable<21> = types! {
+    double,
+    string,
+    object,
+    array,
+    binData,
+    undefined,
+    objectId,
+    bool,
+    date,
+    null,
+    regex,
+    dbPointer,
+    javascript,
+    symbol,
+    javascriptWithScope,
+    int,
+    timestamp,
+    long,
+    decimal,
+    minKey,
+    maxKey,
 };
 
 /// The kinds of refusals, each with its sentence.

@@ -197,6 +197,12 @@ fn nested(alloc: Global, levels: u32) -> Result<Bytes, NoMemory>
     Ok(bytes)
 }
 
+/// A body whose field `b` is the bool 02.
+const BOOL_02: [u8; 30] = [
+    0x1e, 0, 0, 0, 1, 0, 0, 0, 0, 0, 0, 0, 0xdd, 7, 0, 0, 0, 0, 0, 0, 0, 9, 0, 0, 0, 8, 0x62, 0, 2,
+    0,
+];
+
 /// How a connection over that input ends, behind a ping.
 fn end_behind_a_ping(alloc: Global, input: &[u8]) -> Result<Why, NoMemory> {
     let input = joined(alloc, &[&PING, input])?;
@@ -215,11 +221,12 @@ fn told_behind_a_ping(alloc: Global, input: &[u8]) -> Result<String, Fail> {
 fn a_bad_message_is_told_by_its_kind_and_place(rt: HostRuntime) -> Result<(), Fail> {
     let deep = nested(rt.alloc(), 128)?;
     let deeper = nested(rt.alloc(), 129)?;
-    let rows: [(&[u8], &str); 4] = [
+    let rows: [(&[u8], &str); 5] = [
         (&[1, 0x6c, 0xdc, 2], "BadFrame(Length, 0)"),
         (&[0, 0x6c, 0xdc, 2], "Truncated(4)"),
         (deep.as_slice(), "Closed"),
         (deeper.as_slice(), "BadFrame(Document, 789)"),
+        (&BOOL_02, "BadFrame(Document, 25)"),
     ];
     for (input, why) in rows {
         let told = told_behind_a_ping(rt.alloc(), input)?;

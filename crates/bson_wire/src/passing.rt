@@ -27,7 +27,10 @@ const VALUES: [(u8, &[u8]); 9] = [
 
 /// A length, what is inside, and a 00 byte.
 fn enclosed(alloc: Global, inside: &[u8]) -> Result<Bytes, NoMemory> {
-    let mut bytes = Bytes::of(alloc, &(inside.len() as u32).wrapping_add(5).to_le_bytes())?;
+    let Ok(len) = u32::try_from(inside.len().saturating_add(5)) else {
+        return Err(NoMemory);
+    };
+    let mut bytes = Bytes::of(alloc, &len.to_le_bytes())?;
     bytes.extend(inside)?;
     bytes.extend(&[0])?;
     Ok(bytes)

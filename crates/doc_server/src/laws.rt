@@ -1,4 +1,3 @@
-ghost use Rattle.std.specs.Prelude.{◌≡◌, ℕ};
 ghost use Rattle.doc_server.specs.declared.why.Why.{Why as End};
 ghost use Rattle.doc_server.specs.Talk.{Faults};
 ghost use Rattle.doc_server.specs.Program.{status_of, IsSureStatus};

@@ -1,9 +1,8 @@
-ghost use Rattle.std.specs.Prelude.{◌≡◌, ◌<◌, ◌++◌, ◌∷◌, [], ℕ, IfOk, OnErr, MatchOption, length, set, slice_get, Some};
+ghost use Rattle.std.specs.Prelude.{◌≡◌, ◌<◌, [], ℕ, Some};
 ghost use Rattle.std.specs.List.{position};
 ghost use Rattle.bson_values.specs.Names.{same_space};
 ghost use Rattle.history_lock.specs.declared.entry.Who.{Who};
-ghost use Rattle.doc_model.specs.declared.collection.Collection.{Collection as Kept};
-ghost use Rattle.doc_model.specs.Store.{empty_store, collection_of, docs_in, docs_of, same_id, has_id, with_last};
+ghost use Rattle.doc_model.specs.Store.{empty_store, collection_of, docs_of, same_id, has_id};
 ghost use Rattle.doc_model.specs.declared.op.Op.TheVariants as op;
 ghost use Rattle.doc_model.specs.Step.{step};
 ghost use Rattle.doc_server.specs.Kept.{store_of, Adds, Stands};

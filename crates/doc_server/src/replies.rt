@@ -2,7 +2,7 @@ ghost use Rattle.std.specs.Prelude.{◌≡◌, ◌++◌, ◌∷◌, ◌^◌, ◌
 ghost use Rattle.case_tables.specs.Refusals.{code_of, text_of};
 ghost use Rattle.case_tables.specs.Types.{type_name_of};
 ghost use Rattle.bson_values.specs.declared.value.Value.TheVariants.{Doc as document};
-ghost use Rattle.doc_server.specs.Replies.{ok_document, error_saying, error_document, refusal_document, inserted_document, item_error, refused_document, namespace, cursor_document, batch_document, total_size, fit_a_batch};
+ghost use Rattle.doc_server.specs.Replies.{ok_document, error_saying, error_document, refusal_document, inserted_document, item_error, refused_document, namespace, batch_document, total_size, fit_a_batch};
 
 use bson_values::{Document, List, NoMemory, Space, Text, Value};
 use bson_wire::Foreign;

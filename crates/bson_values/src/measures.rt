@@ -77,9 +77,10 @@ impl List<Value> {
         deepest.saturating_add(1)
     }
 
+    /// The bytes that an array of these items takes in BSON 1.1. Past the last `u64` it is that.
     #[tactic(auto, using(crate::proofs::Totals::size_items))]
     #[cycle(size)]
-    fn size(&self) -> u64
+    pub fn size(&self) -> u64
         ensures { result ≡ min (value_size (Value.Arr self.now)) (2 ^ 64 - 1) }
     {
         let mut total = 5u64;

@@ -16,6 +16,7 @@ pub use laws::{
 };
 pub use reader::{Front, read};
 pub use refused::ReadRefused;
+pub use scalars::name;
 pub use writer::write;
 pub use writing_in::write_in;
 

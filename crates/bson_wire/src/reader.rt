@@ -1,4 +1,4 @@
-ghost use Rattle.std.specs.Prelude.{◌≡◌, ◌≤◌, ◌<◌, ◌∷◌, ◌++◌, ◌+◌, [], length, IfOk, IfErr, OnOk, ℕ, List as Seq, take};
+ghost use Rattle.std.specs.Prelude.{◌≡◌, ◌≤◌, ◌<◌, ◌++◌, ◌+◌, [], length, IfOk, IfErr, OnOk, ℕ, List as Seq, take};
 ghost use Rattle.std.specs.Result.{MatchResult};
 ghost use Rattle.bson_values.specs.declared.pairs.Pair.{Pair as Named};
 ghost use Rattle.bson_values.specs.declared.value.Value.{Value as Held};

@@ -1,4 +1,4 @@
-ghost use Rattle.std.specs.Prelude.{◌≡◌, ◌≤◌, ◌<◌, ◌==◌, ◌+◌, length, IfSome, IfOk, position};
+ghost use Rattle.std.specs.Prelude.{◌≡◌, ◌≤◌, ◌<◌, ◌==◌, ◌+◌, length, IfSome, IfOk, IfErr, position};
 ghost use Rattle.bson_wire.specs.Reading.{Gives, number_at, long_at, length_at, part_at, ended_at, text_of, nul_at, name_at, text_at, string_at, binary_at, id_at, bool_at, regex_at, scalar_at};
 
 use crate::refused::ReadRefused;
@@ -72,7 +72,8 @@ pub(crate) fn ended(bytes: &[u8], place: u64) -> Result<&[u8], ReadRefused>
 }
 
 fn text(bytes: &[u8], place: u64) -> Result<&str, ReadRefused>
-    ensures { Gives (λ it. it.now) result (text_of place bytes.now) }
+    ensures value { Gives (λ it. it.now) result (text_of place bytes.now) }
+    ensures malformed { IfErr result (λ refused. refused ≡ ReadRefused.Malformed place) }
 {
     match from_utf8(bytes) {
         Ok(text) => Ok(text),
@@ -88,9 +89,12 @@ fn position_of_nul(bytes: &[u8]) -> Option<usize>
     bytes.iter().position(|byte| *byte == 0)
 }
 
+/// The cstring of BSON 1.1 at the front of some bytes, without its 00 byte, and the bytes behind that byte. It is refused, at `place`,
+/// where no 00 stands, or what stands before the first is not UTF-8.
 #[tactic(auto, unfolding(crate::specs::Reading::nul_at, crate::specs::Reading::name_at))]
-pub(crate) fn name(bytes: &[u8], place: u64) -> Result<(&str, &[u8]), ReadRefused>
+pub fn name(bytes: &[u8], place: u64) -> Result<(&str, &[u8]), ReadRefused>
     ensures value { Gives (λ it. (it.0.now, it.1.now)) result (name_at place bytes.now) }
+    ensures malformed { IfErr result (λ refused. refused ≡ ReadRefused.Malformed place) }
     ensures shorter { IfOk result (λ it. length it.1.now ≤ length bytes.now) }
 {
     match position_of_nul(bytes) {

@@ -83,16 +83,17 @@ behind-is : (end : ℕ) (sections : Result (List ℕ) Fault) (body : Content) �
 behind-is end (Ok found) body is = (found, refl, is)
 behind-is end (Err fault) body is = absurd cc
 
-request-is : (bits : ℕ) (body : Result Content Fault) (m : Message) → with_request bits body ≡ Ok m → (body ≡ Ok (m.body, m.foreign)) × (m.request ≡ cast_signed w32 bits)
+request-is : (bits : ℕ) (body : Result Content Fault) (m : Message) → with_request bits body ≡ Ok m → (body ≡ Ok (m.body, m.foreign)) × (m.request ≡ cast_signed w32 bits) × (m.sequences ≡ [])
 request-is bits (Ok (body, foreign)) m is =
-    let same = same-found (record { request = cast_signed w32 bits; body = body; foreign = foreign }) m is in
-    (ap (λ (it : Message). Ok (it.body, it.foreign)) same, ap (λ (it : Message). it.request) (sym same))
+    let same = same-found (record { request = cast_signed w32 bits; body = body; sequences = []; foreign = foreign }) m is in
+    (ap (λ (it : Message). Ok (it.body, it.foreign)) same, ap (λ (it : Message). it.request) (sym same), ap (λ (it : Message). it.sequences) (sym same))
 request-is bits (Err fault) m is = absurd cc
 
 -- what a message has at its fixed places
 pub record Fixed (bytes : List ℕ) (m : Message) : Type 0 where
   pub long : 25 ≤ length bytes
   pub request : m.request ≡ cast_signed w32 (little_number 4 (drop 4 bytes))
+  pub none : m.sequences ≡ []
   pub flags : little_number 2 (drop 16 bytes) ≡ 0
   pub kind : get_or (drop 20 bytes) 0 0 ≡ 0
   pub foreigns : List Foreign
@@ -110,4 +111,4 @@ message-fixed bytes m is =
     let place : length bytes - length (drop 20 bytes) + 1 ≡ 21 = omega (arith, length-drop 20 bytes, places.0) in
     let read = section.2 in
     let foreign = read.2 ∙ ap (λ (n : ℕ). moved n (first read.0)) place in
-    record { long = omega (arith, section.1, length-drop 20 bytes, places.0); request = request.1; flags = places.1; kind = section.0; foreigns = read.0; body = read.1; foreign = foreign }
+    record { long = omega (arith, section.1, length-drop 20 bytes, places.0); request = request.1; none = request.2; flags = places.1; kind = section.0; foreigns = read.0; body = read.1; foreign = foreign }

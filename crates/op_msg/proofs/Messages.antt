@@ -95,7 +95,7 @@ unfolding message_at sections_at
 message-again bytes m is =
     let at = placed bytes m is in
     let long : ltb (length bytes) 20 ≡ false = le-ltb _ _ (omega (arith, at.long)) in
-    rw (long, at.flags, at.behind, body-again (length bytes) is.document m.body is.foreigns is.body at.long, at.asked, ← is.foreign) refl
+    rw (long, at.flags, at.behind, body-again (length bytes) is.document m.body is.foreigns is.body at.long, at.asked, ← is.foreign, ← is.none) refl
 
 -- ---- what is read is a message
 
@@ -176,5 +176,6 @@ module _ (bytes : List ℕ) (fits : IsBytes bytes) (in_range : InRange (length b
     two = omega (arith, at.long, length-take 2 (drop 18 bytes), length-drop 18 bytes);
     whole = whole-cut ∙ ap (λ b. int32 (length bytes) ++ int32 b ++ take 4 (drop 8 bytes) ++ int32 2013 ++ (0 ∷ 0 ∷ []) ++ take 2 (drop 18 bytes) ++ 0 ∷ drop 21 bytes) (sym unsigned);
     body = document-spelled;
+    none = at.none;
     foreign = at.foreign;
   }

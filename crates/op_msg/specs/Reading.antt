@@ -1,5 +1,5 @@
 -- What stands at the front of a stream, read from the left, or the first fault there: its kind, and its place from the front.
-use Rattle.std.specs.Prelude.{ℕ, ◌≡◌, ◌⊎◌, ◌+◌, ◌-◌, ◌<◌, ◌==◌, ◌||◌, nat_lt, if◌then◌else◌, List, length, take, drop, slice_index, Option, None, Some, Result, Ok, Err}
+use Rattle.std.specs.Prelude.{ℕ, ◌≡◌, ◌⊎◌, ◌+◌, ◌-◌, ◌<◌, ◌==◌, ◌||◌, nat_lt, if◌then◌else◌, List, [], length, take, drop, slice_index, Option, None, Some, Result, Ok, Err}
 use Rattle.std.specs.Int.{w32, cast_signed}
 use Rattle.byteorder.specs.Endian.{little_number}
 use Rattle.bson_values.specs.declared.pairs.Pair.{Pair}
@@ -76,7 +76,7 @@ body_behind end (Ok sections) = body_at end sections
 body_behind end (Err fault) = Err fault
 
 abbrev pub with_request : ℕ → Result Content Fault → Result Message Fault
-with_request bits (Ok (body, foreign)) = Ok (record { request = cast_signed w32 bits; body = body; foreign = foreign })
+with_request bits (Ok (body, foreign)) = Ok (record { request = cast_signed w32 bits; body = body; sequences = []; foreign = foreign })
 with_request bits (Err fault) = Err fault
 
 -- the message that all these bytes are

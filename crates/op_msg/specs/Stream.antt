@@ -29,6 +29,7 @@ pub record message (bytes : List ℕ) (m : Message) : Type 0 where
   pub two : length high_flags ≡ 2
   pub whole : bytes ≡ int32 (length bytes) ++ int32 (cast_unsigned w32 m.request) ++ response_to ++ int32 2013 ++ (0 ∷ 0 ∷ []) ++ high_flags ++ 0 ∷ document
   pub body : spells document m.body foreigns
+  pub none : m.sequences ≡ []
   pub foreign : m.foreign ≡ moved 21 (first foreigns)
 
 -- the messages one after another, then the rest

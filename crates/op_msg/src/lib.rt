@@ -10,7 +10,7 @@ pub use laws::{
     a_fault_stays, a_front_is_a_message_a_fault_or_short, a_stream_has_one_framing,
     the_pieces_of_a_stream_do_not_show,
 };
-pub use message::{BadKind, Message, Taken};
+pub use message::{BadKind, Message, Sequence, Taken};
 pub use reply::put_reply;
 pub use taking::take;
 

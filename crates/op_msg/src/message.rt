@@ -1,14 +1,25 @@
-use bson_values::Document;
+use bson_values::{Document, List, Text};
 use bson_wire::Foreign;
 
-/// A request: OP_MSG with one body.
+/// A document sequence: what a section of kind 1 holds.
+#[derive(Debug, Drop)]
+pub struct Sequence {
+    /// The identifier, which names the field of the command that the documents stand for.
+    pub name: Text,
+    pub docs: List<Document>,
+}
+
+/// A request: OP_MSG with one body and any number of document sequences.
 #[derive(Debug, Drop)]
 pub struct Message {
     /// The `requestID`, which the reply answers to.
     pub request: i32,
     /// The document of the section of kind 0.
     pub body: Document,
-    /// The first foreign element of the body, with its place counted from the front of the message. It is not in `body`.
+    /// The sections of kind 1, in order.
+    pub sequences: List<Sequence>,
+    /// The first foreign element of all documents, in the order of the bytes, with its place counted from the front of the message.
+    /// It is in none of them.
     pub foreign: Option<Foreign>,
 }
 

@@ -5,7 +5,7 @@ ghost use Rattle.op_msg.specs.Reading.{in_message, sections_at, section_at, body
 ghost use Rattle.op_msg.specs.Front.{Takes, Gives};
 
 use crate::message::{BadKind, Message, OP_MSG, Taken};
-use bson_values::{Document, head, tail};
+use bson_values::{Document, List, head, tail};
 use bson_wire::{Foreign, ReadRefused, read};
 use byteorder::{ByteOrder, LittleEndian};
 use std::alloc::Global;
@@ -155,6 +155,7 @@ fn message(alloc: Global, whole: &[u8]) -> Result<Message, Refused>
     Ok(Message {
         request: LittleEndian::read_i32(tail(whole, 4)),
         body,
+        sequences: List::new(alloc),
         foreign,
     })
 }

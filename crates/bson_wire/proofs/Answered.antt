@@ -7,7 +7,7 @@ use Rattle.bson_wire.specs.declared.refused.ReadRefused.{ReadRefused}
 use Rattle.bson_wire.specs.declared.refused.ReadRefused.TheVariants.{Malformed, NoMemory}
 use Rattle.bson_wire.specs.Grammar.{spells}
 use Rattle.bson_wire.specs.Reading.{Fails, document_at, first, with_first, fault_of, Tells}
-use Rattle.bson_wire.proofs.Steps.{same_Ok, bind_ok}
+use Rattle.bson_wire.proofs.Steps.{same_Ok, bind_ok, bind_err}
 use Rattle.bson_wire.proofs.Bytes.{IsBytes}
 use Rattle.bson_wire.proofs.Documents.{document_takes, document_again}
 use Rattle.bson_wire.proofs.Values.{Doc}
@@ -23,9 +23,9 @@ untold read doc foreign rest is =
       sym (ap (λ it. it.1) same),
     )
 
+-- what was refused with it was refused without
 unrefused : (read : Result (Doc × List Foreign × List ℕ) ℕ) (place : ℕ) → with_first read ≡ Err place → read ≡ Err place
-unrefused (Err other) place is = cc
-unrefused (Ok it) place is = absurd cc
+unrefused read place is = bind_err read (λ it. (it.0, first it.1, it.2)) place is
 
 pub read_found : (bytes rest : List ℕ) (doc : Doc) (foreign : Option Foreign) (used : ℕ) → IsBytes bytes → with_first (document_at 128 (length bytes) bytes) ≡ Ok (doc, foreign, rest) → used ≡ length bytes - length rest
     → (used ≤ length bytes) × (all : List Foreign) × spells (take used bytes) doc all × (foreign ≡ first all)

@@ -2,6 +2,7 @@
 use Rattle.std.proofs.Common.{◌≡◌, ℕ, zero, suc, ◌+◌, ◌<◌, ◌≤◌, List, [], ◌∷◌, ◌++◌, length, drop, refl, sym, ap, arith, ◌∙◌, append_assoc, get_or, length-drop}
 use Rattle.std.specs.Prelude.{Option, None, Some, Result, Ok, Err}
 use Rattle.std.proofs.lemmas.Grind.{flat_map-append}
+use Rattle.std.proofs.lemmas.List.{append-nil, map-append}
 use Rattle.bson_values.specs.declared.pairs.Pair.{Pair}
 use Rattle.bson_values.specs.declared.value.Value.{Value}
 use Rattle.bson_wire.specs.declared.foreign.Foreign.{Foreign}
@@ -9,7 +10,7 @@ use Rattle.bson_wire.specs.declared.refused.ReadRefused.{ReadRefused}
 use Rattle.bson_wire.specs.declared.refused.ReadRefused.TheVariants.{Malformed, NoMemory}
 use Rattle.bson_wire.specs.Grammar.{Element, pair_of, kept, foreigns, values}
 use Rattle.bson_wire.specs.Reading.{Fails, ◌>>=◌, element_at, elements_at, all_at, first, earlier, element_told}
-use Rattle.bson_wire.proofs.Steps.{same_Ok, bind_ok}
+use Rattle.bson_wire.proofs.Steps.{same_Ok, bind_ok, bind_err}
 
 -- what was read before goes first
 abbrev pub behind : {A : Type 0} → List A → Result (List A) ℕ → Result (List A) ℕ
@@ -22,10 +23,6 @@ behind-none (Ok others) = refl
 behind-one : {A : Type 0} (before : List A) (first : A) (found : Result (List A) ℕ) → behind before (found >>= λ others. Ok (first ∷ others)) ≡ behind (before ++ first ∷ []) found
 behind-one before first (Err place) = refl
 behind-one before first (Ok others) = ap (λ all. Ok all) (sym (append_assoc before (first ∷ []) others))
-
-append-nil : {A : Type 0} (xs : List A) → xs ++ [] ≡ xs
-append-nil [] = refl
-append-nil (x ∷ xs) = ap (λ t. x ∷ t) (append-nil xs)
 
 -- a refusal that was right of a part is right of the whole
 pub fails-on : {A B : Type 0} (refused : ReadRefused) (part : Result A ℕ) (whole : Result B ℕ) → Fails refused part → ((place : ℕ) → part ≡ Err place → whole ≡ Err place) → Fails refused whole
@@ -51,13 +48,9 @@ nameless : (name : List ℕ) (value : Option Value) → values (pair_of name val
 nameless name None = refl
 nameless name (Some value) = refl
 
-values-append : (before now : List (Pair Value)) → values (before ++ now) ≡ values before ++ values now
-values-append [] now = refl
-values-append (pair ∷ before) now = ap (λ (rest : List Value). pair.value ∷ rest) (values-append before now)
-
 pub items-more : (before : List Element) (it : Element) → values (kept (before ++ it ∷ [])) ≡ values (kept before) ++ values (pair_of [] it.value)
 items-more before it =
-    ap values (kept-more before it) ∙ values-append (kept before) (pair_of it.name it.value) ∙ ap (λ (now : List Value). values (kept before) ++ now) (nameless it.name it.value)
+    ap values (kept-more before it) ∙ map-append (λ (pair : Pair Value). pair.value) (kept before) (pair_of it.name it.value) ∙ ap (λ (now : List Value). values (kept before) ++ now) (nameless it.name it.value)
 
 -- ---- a loop over the elements that fill some bytes
 
@@ -96,10 +89,7 @@ module _ (document : ℕ → List ℕ → Result (List (Pair Value) × List Fore
       )
 
   refused-told : (code : ℕ) (bytes : List ℕ) (place : ℕ) → element_told (element_at document array end code bytes) ≡ Err place → element_at document array end code bytes ≡ Err place
-  refused-told code bytes place is = untold (element_at document array end code bytes) is where
-    untold : (found : Result (Element × List ℕ) ℕ) → element_told found ≡ Err place → found ≡ Err place
-    untold (Err other) is = cc
-    untold (Ok it) is = absurd cc
+  refused-told code bytes place is = bind_err (element_at document array end code bytes) (λ it. (it.0.name, it.0.value, first it.0.foreign, it.1)) place is
 
   -- what is kept of each element goes behind what is kept of those before it
   module _ {A : Type 0} (keep : List Element → List A) (one : List ℕ → Option Value → List A) (keeps : (before : List Element) (it : Element) → keep (before ++ it ∷ []) ≡ keep before ++ one it.name it.value) where

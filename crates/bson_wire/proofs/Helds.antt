@@ -25,14 +25,16 @@ held_layer (Value-F.Int number) = (16, int32 (cast_unsigned w32 number))
 held_layer (Value-F.Stamp stamp) = (17, int64 stamp)
 held_layer (Value-F.Long number) = (18, int64 (cast_unsigned w64 number))
 
-abbrev Spelled : Type 0
+-- a type byte and the bytes behind a name
+abbrev pub Spelled : Type 0
 Spelled = ℕ × List ℕ
 
 -- a pair with what its value holds
-abbrev along : Pair Value → Pair Spelled
+abbrev pub along : Pair Value → Pair Spelled
 along pair = record { name = pair.name; value = held pair.value }
 
-abbrev joined : Pair Spelled → List ℕ
+-- the element that they make
+abbrev pub joined : Pair Spelled → List ℕ
 joined pair = element_of pair.name pair.value
 
 layer_is : (layer : Value-F Value) → held_in (map-Value Value Spelled held layer) ≡ held_layer layer
@@ -52,6 +54,10 @@ layer_is (Value-F.Long number) = refl
 pub held_is : (it : Value) → held it ≡ held_layer (out-Value it)
 held_is it = fold_out-Value Spelled held_in it ∙ layer_is (out-Value it)
 
+-- the same by the layer
+pub held_by : (it : Value) (layer : Value-F Value) → out-Value it ≡ layer → held it ≡ held_layer layer
+held_by it layer is = held_is it ∙ ap (λ (l : Value-F Value). held_layer l) is
+
 -- what a document holds is its spelling
 pub doc-held : (it : Value) (doc : List (Pair Value)) → it ≡ value.Doc doc → (held it).1 ≡ spell doc
-doc-held it doc is = ap (λ (v : Value). (held v).1) is ∙ ap (λ (h : Spelled). h.1) (held_is (value.Doc doc)) ∙ ap (λ (layer : Value-F Value). (held_layer layer).1) (value.outs-Doc doc)
+doc-held it doc is = ap (λ (v : Value). (held v).1) is ∙ ap (λ (h : Spelled). h.1) (held_by (value.Doc doc) (Value-F.Doc doc) (value.outs-Doc doc))

@@ -14,6 +14,7 @@ pub mod Answered
 pub mod Helds
 pub mod Sizes
 pub mod Written
+pub mod Writable
 pub mod Lengths
 pub mod Bounds
 pub mod Measured

@@ -1,4 +1,4 @@
--- The size of a document is the length of its spelling.
+-- The size of a value is the length of what spells it.
 use Rattle.std.proofs.Common.{◌≡◌, ℕ, ◌+◌, List, [], ◌∷◌, length, map, refl, sym, ap, subst, ◌∙◌, arith}
 use Rattle.std.specs.Fmt.{decimal}
 use Rattle.std.specs.List.{flat_map}
@@ -10,12 +10,9 @@ use Rattle.bson_values.specs.declared.value.Value.{Value, map-Value}
 use Rattle.bson_values.specs.declared.value.Value.TheVariants as value
 use Rattle.bson_values.specs.declared.value.Value.TheOpen.{Value-F}
 use Rattle.bson_values.specs.declared.value.Value.TheFolds.{fold-roll-Value, ind-Value}
-use Rattle.bson_wire.specs.Spelling.{cstring, element_of, items_from, held_in, held, spell}
-use Rattle.bson_wire.proofs.Helds.{doc-held}
+use Rattle.bson_wire.specs.Spelling.{cstring, element_of, items_from, held_in, held, enclosed, spell}
+use Rattle.bson_wire.proofs.Helds.{Spelled, along, joined, held_by, doc-held}
 use Rattle.bson_wire.proofs.Sizes.{length-string, length-binary, length-enclosed, length-element_of}
-
-abbrev Spelled : Type 0
-Spelled = ℕ × List ℕ
 
 -- the size of a value is the length of what it holds
 abbrev IsMeasured : Value → Type 0
@@ -33,17 +30,11 @@ pair_of pair = record { name = pair.name; value = pair.value.0 }
 abbrev sized : Pair Value → Pair ℕ
 sized pair = record { name = pair.name; value = value_size pair.value }
 
-abbrev spelled : Pair Value → Pair Spelled
-spelled pair = record { name = pair.name; value = held pair.value }
-
-abbrev joined : Pair Spelled → List ℕ
-joined pair = element_of pair.name pair.value
-
-fields_measured : (pairs : List (Pair Known)) → fields_size (map sized (map pair_of pairs)) ≡ length (flat_map joined (map spelled (map pair_of pairs)))
+fields_measured : (pairs : List (Pair Known)) → fields_size (map sized (map pair_of pairs)) ≡ length (flat_map joined (map along (map pair_of pairs)))
 fields_measured [] = refl
 fields_measured (pair ∷ pairs) =
-    let first = spelled (pair_of pair) in
-    let rest = map spelled (map pair_of pairs) in
+    let first = along (pair_of pair) in
+    let rest = map along (map pair_of pairs) in
     omega (
       arith,
       pair.value.1,
@@ -67,7 +58,7 @@ Agree layer = size_in (map-Value Value ℕ value_size layer) ≡ length (held_in
 
 layer_measured : (layer : Value-F Known) → Agree (map-Value Known Value value_of layer)
 layer_measured (Value-F.Str text) = sym (length-string text)
-layer_measured (Value-F.Doc pairs) = ap (λ (n : ℕ). n + 5) (fields_measured pairs) ∙ sym (length-enclosed (flat_map joined (map spelled (map pair_of pairs))))
+layer_measured (Value-F.Doc pairs) = ap (λ (n : ℕ). n + 5) (fields_measured pairs) ∙ sym (length-enclosed (flat_map joined (map along (map pair_of pairs))))
 layer_measured (Value-F.Arr items) = ap (λ (n : ℕ). n + 5) (items_measured 0 items) ∙ sym (length-enclosed (items_from 0 (map held (map value_of items))))
 layer_measured (Value-F.Bin it) = sym (length-binary it.subtype it.bytes)
 layer_measured (Value-F.Id id) = refl
@@ -84,5 +75,10 @@ pub value_measured : (it : Value) → IsMeasured it
 value_measured = ind-Value IsMeasured (λ layer known is.
     fold-roll-Value ℕ size_in layer ∙ subst Agree is (layer_measured known) ∙ sym (ap (λ (h : Spelled). length h.1) (fold-roll-Value Spelled held_in layer)))
 
+-- of a document its spelling
 pub measured : (doc : List (Pair Value)) → size doc ≡ length (spell doc)
 measured doc = value_measured (value.Doc doc) ∙ ap length (doc-held (value.Doc doc) doc refl)
+
+-- of an array its elements, named by their places
+pub array_measured : (items : List Value) → value_size (value.Arr items) ≡ length (enclosed (items_from 0 (map held items)))
+array_measured items = value_measured (value.Arr items) ∙ ap (λ (h : Spelled). length h.1) (held_by (value.Arr items) (Value-F.Arr items) (value.outs-Arr items))

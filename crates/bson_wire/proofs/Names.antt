@@ -2,7 +2,7 @@
 use Rattle.std.proofs.Common.{◌≡◌, ◌≢◌, ℕ, ◌+◌, ◌-◌, ◌<◌, ◌≤◌, true, false, ltb, eqb, List, [], ◌∷◌, ◌++◌, length, take, drop, All, refl, sym, ap, subst, ◌∙◌, append_assoc, arith}
 use Rattle.std.specs.Prelude.{Option, Some, None, Ok, position, ◌==◌, slice_index}
 use Rattle.std.proofs.lemmas.Bool.{ltb-false, le-ltb, lt-ltb, eqb-true, eqb-false, ne_eqb}
-use Rattle.std.proofs.lemmas.List.{length-append, length-take, take-append-drop, take_at, drop_at, get_or_at, get_or-take, get_or_append_left}
+use Rattle.std.proofs.lemmas.List.{length-append, length-take, append-nil, drop_all, take-append-drop, take_at, drop_at, get_or_at, get_or-take, get_or_append_left}
 use Rattle.std.proofs.lemmas.List.Elements.{All-get_or, All-from_get_or}
 use Rattle.std.proofs.lemmas.List.Quantifiers.{position-Some}
 use Rattle.std.proofs.lemmas.List.Sums.{position_or_len_is}
@@ -56,14 +56,6 @@ name_again place name rest is =
     let after : drop (length name + 1) (cstring name ++ rest) ≡ rest = drop_at (cstring name) rest (length name + 1) (length-append name (0 ∷ [])) in
     rw (len, front, after, text_again place name is.utf8) refl
 
-none_left : (bytes : List ℕ) → drop (length bytes) bytes ≡ []
-none_left [] = refl
-none_left (byte ∷ bytes) = none_left bytes
-
-append_nil : (bytes : List ℕ) → bytes ++ [] ≡ bytes
-append_nil [] = refl
-append_nil (byte ∷ bytes) = ap (λ (rest : List ℕ). byte ∷ rest) (append_nil bytes)
-
 pub part_takes : (place len : ℕ) (bytes : List ℕ) (found : List ℕ × List ℕ) → part_at place len bytes ≡ Ok found → (bytes ≡ found.0 ++ found.1) × (length found.0 ≡ len)
 unfolding part_at
 part_takes place len bytes found is =
@@ -83,10 +75,9 @@ unfolding ended_at
 ended_takes place bytes inside some is =
     let test = when_ok (eqb (slice_index bytes (length bytes - 1)) 0) place (Ok (take (length bytes - 1) bytes)) inside is in
     let same : take (length bytes - 1) bytes ≡ inside = same_Ok (take (length bytes - 1) bytes) inside test.1 in
-    let last : length bytes - 1 + 1 ≡ length bytes = omega arith in
     let ended = nul_ends bytes (length bytes - 1) (omega arith) (eqb-true _ _ test.0) in
-    let none : drop (length bytes - 1 + 1) bytes ≡ [] = rw last (none_left bytes) in
-    (ended ∙ ap (λ (rest : List ℕ). cstring (take (length bytes - 1) bytes) ++ rest) none ∙ append_nil (cstring (take (length bytes - 1) bytes)) ∙ ap cstring same, same)
+    let none : drop (length bytes - 1 + 1) bytes ≡ [] = drop_all (length bytes - 1 + 1) bytes (omega arith) in
+    (ended ∙ ap (λ (rest : List ℕ). cstring (take (length bytes - 1) bytes) ++ rest) none ∙ append-nil (cstring (take (length bytes - 1) bytes)) ∙ ap cstring same, same)
 
 pub ended_again : (place : ℕ) (inside : List ℕ) → ended_at place (cstring inside) ≡ Ok inside
 unfolding ended_at

@@ -12,6 +12,11 @@ pub bind_ok : {A B : Type 0} (found : Result A ℕ) (next : A → Result B ℕ) 
 bind_ok (Ok first) next value is = (first, refl, is)
 bind_ok (Err place) next value is = absurd cc
 
+-- where nothing behind a step can fail, the step did
+pub bind_err : {A B : Type 0} (found : Result A ℕ) (next : A → B) (place : ℕ) → (found >>= λ it. Ok (next it)) ≡ Err place → found ≡ Err place
+bind_err (Err other) next place is = cc
+bind_err (Ok it) next place is = absurd cc
+
 -- a test that did not refuse
 pub unless_ok : {A : Type 0} (refuse : Bool) (place : ℕ) (found : Result A ℕ) (value : A) → (if refuse then Err place else found) ≡ Ok value → (refuse ≡ false) × (found ≡ Ok value)
 unless_ok true place found value is = absurd cc

@@ -64,7 +64,8 @@ element_spelled levels are place pair named has small =
     let short : length (held pair.value).1 < 2 ^ 31 = omega (arith, length-element_of pair.name (held pair.value)) in
     record { code = (held pair.value).0; content = (held pair.value).1; whole = refl; name = named; value = (are (place + (length pair.name + 2)) pair.value has short, inr (inr refl)) }
 
-abbrev IsFit : ℕ → Pair Value → Type 0
+-- a pair that has a spelling in so many levels
+abbrev pub IsFit : ℕ → Pair Value → Type 0
 IsFit levels pair = IsName pair.name × HasSpelling (out-Value pair.value) levels
 
 elements_spelled : (levels : ℕ) → AreSpelled levels → (place : ℕ) (doc : Doc) → All (IsFit levels) doc → length (flat_map element doc) < 2 ^ 31
@@ -79,7 +80,8 @@ elements_spelled levels are place (pair ∷ doc) fits small =
     let others = elements_spelled levels are (place + length (element pair)) doc (All-tail (IsFit levels) pair doc fits) (omega arith) in
     (element pair, rest, whole, first, others)
 
-abbrev IsFitItem : ℕ → Value → Type 0
+-- an item that has
+abbrev pub IsFitItem : ℕ → Value → Type 0
 IsFitItem levels item = HasSpelling (out-Value item) levels
 
 items_spelled : (levels : ℕ) → AreSpelled levels → (start place : ℕ) (items : List Value) → All (IsFitItem levels) items → place + length (items_from place (map held items)) < 2 ^ 31

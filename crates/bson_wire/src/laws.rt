@@ -1,4 +1,4 @@
-ghost use Rattle.std.specs.Prelude.{◌≡◌, ◌++◌, ℕ, List, [], length};
+ghost use Rattle.std.specs.Prelude.{◌≡◌, ◌++◌, ◌<◌, ◌^◌, ℕ, List, [], length};
 ghost use Rattle.bson_values.specs.Measures.{size};
 ghost use Rattle.bson_values.specs.declared.pairs.Pair.{Pair};
 ghost use Rattle.bson_values.specs.declared.value.Value.{Value};
@@ -16,6 +16,12 @@ pub fn no_spelling_begins_another()
 /// What `write` appends is in the grammar, with no foreign element, so `read` gives the document back, whatever follows.
 pub fn what_was_written_is_read_again()
     ensures { (doc : List (Pair Value)) → IsSpellable doc → spells (spell doc) doc [] }
+{}
+
+/// What `read` gives is such a document, unless its spelling takes 2^31 bytes or more.
+pub fn what_was_read_can_be_written()
+    ensures { (bytes : List ℕ) (doc : List (Pair Value)) (foreign : List Foreign) → spells bytes doc foreign
+        → length (spell doc) < 2 ^ 31 → IsSpellable doc }
 {}
 
 /// The size of a document is the length of its spelling.

@@ -1,7 +1,16 @@
 //! Malformed bytes, each with the place of its first fault.
 
 use crate::{ReadRefused, read};
+use std::alloc::Global;
 use std::test::Fail;
+
+/// Why no document was read, unless one was.
+fn refusal(alloc: Global, bytes: &[u8]) -> Option<ReadRefused> {
+    match read(alloc, bytes) {
+        Ok(_) => None,
+        Err(refused) => Some(refused),
+    }
+}
 
 #[test]
 fn faults_of_a_document_are_at_its_length(rt: HostRuntime) -> Result<(), Fail> {
@@ -18,10 +27,8 @@ fn faults_of_a_document_are_at_its_length(rt: HostRuntime) -> Result<(), Fail> {
         ),
     ];
     for (reason, place, bytes) in rows {
-        match read(rt.alloc(), bytes) {
-            Ok(_) => panic!(rt; "read {reason}"),
-            Err(refused) => assert_eq!(rt; refused, ReadRefused::Malformed(place), "{reason}"),
-        }
+        let refused = refusal(rt.alloc(), bytes);
+        assert_eq!(rt; refused, Some(ReadRefused::Malformed(place)), "{reason}");
     }
     Ok(())
 }
@@ -38,10 +45,8 @@ fn faults_of_an_element_are_at_its_type_byte(rt: HostRuntime) -> Result<(), Fail
         ("the type byte 14", 4, &[8, 0, 0, 0, 0x14, 97, 0, 0]),
     ];
     for (reason, place, bytes) in rows {
-        match read(rt.alloc(), bytes) {
-            Ok(_) => panic!(rt; "read {reason}"),
-            Err(refused) => assert_eq!(rt; refused, ReadRefused::Malformed(place), "{reason}"),
-        }
+        let refused = refusal(rt.alloc(), bytes);
+        assert_eq!(rt; refused, Some(ReadRefused::Malformed(place)), "{reason}");
     }
     Ok(())
 }
@@ -67,10 +72,8 @@ fn faults_of_a_text_or_a_binary_are_at_its_type_byte(rt: HostRuntime) -> Result<
         ),
     ];
     for (reason, place, bytes) in rows {
-        match read(rt.alloc(), bytes) {
-            Ok(_) => panic!(rt; "read {reason}"),
-            Err(refused) => assert_eq!(rt; refused, ReadRefused::Malformed(place), "{reason}"),
-        }
+        let refused = refusal(rt.alloc(), bytes);
+        assert_eq!(rt; refused, Some(ReadRefused::Malformed(place)), "{reason}");
     }
     Ok(())
 }
@@ -108,10 +111,51 @@ fn faults_of_an_inner_document_are_at_the_inner_place(rt: HostRuntime) -> Result
         ),
     ];
     for (reason, place, bytes) in rows {
-        match read(rt.alloc(), bytes) {
-            Ok(_) => panic!(rt; "read {reason}"),
-            Err(refused) => assert_eq!(rt; refused, ReadRefused::Malformed(place), "{reason}"),
-        }
+        let refused = refusal(rt.alloc(), bytes);
+        assert_eq!(rt; refused, Some(ReadRefused::Malformed(place)), "{reason}");
+    }
+    Ok(())
+}
+
+#[test]
+fn faults_of_a_foreign_element_are_at_its_type_byte(rt: HostRuntime) -> Result<(), Fail> {
+    let rows: [(&str, u64, &[u8]); 5] = [
+        (
+            "a double of 7 bytes",
+            4,
+            &[15, 0, 0, 0, 1, 97, 0, 1, 2, 3, 4, 5, 6, 7, 0],
+        ),
+        (
+            "a code with scope of 13 bytes",
+            4,
+            &[
+                21, 0, 0, 0, 15, 97, 0, 13, 0, 0, 0, 1, 0, 0, 0, 0, 4, 0, 0, 0, 0,
+            ],
+        ),
+        (
+            "a symbol without its 00",
+            4,
+            &[14, 0, 0, 0, 14, 97, 0, 2, 0, 0, 0, 98, 99, 0],
+        ),
+        (
+            "a pointer cut short",
+            4,
+            &[
+                25, 0, 0, 0, 12, 97, 0, 2, 0, 0, 0, 113, 0, 1, 2, 3, 4, 5, 6, 7, 8, 9, 10, 11, 0,
+            ],
+        ),
+        (
+            "a decimal of 15 bytes in an array",
+            11,
+            &[
+                31, 0, 0, 0, 4, 97, 0, 23, 0, 0, 0, 0x13, 48, 0, 1, 2, 3, 4, 5, 6, 7, 8, 9, 10, 11,
+                12, 13, 14, 15, 0, 0,
+            ],
+        ),
+    ];
+    for (reason, place, bytes) in rows {
+        let refused = refusal(rt.alloc(), bytes);
+        assert_eq!(rt; refused, Some(ReadRefused::Malformed(place)), "{reason}");
     }
     Ok(())
 }

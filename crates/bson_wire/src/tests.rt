@@ -1,3 +1,5 @@
+ghost use Rattle.std.specs.Prelude.{◌<◌};
+
 use crate::{ReadRefused, read, write, write_in};
 use bson_values::{Bytes, NoMemory, Room, Value};
 use std::alloc::Global;

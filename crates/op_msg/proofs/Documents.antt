@@ -1,9 +1,9 @@
 -- Documents within a message.
-use Rattle.std.proofs.Common.{◌≡◌, ℕ, ◌+◌, ◌≤◌, List, length, take, drop, sym, ap, ◌∙◌, arith}
+use Rattle.std.proofs.Common.{◌≡◌, ℕ, ◌+◌, ◌<◌, ◌≤◌, List, [], ◌∷◌, length, take, drop, sym, ap, ◌∙◌, arith, length-append, length-take, length-drop}
 use Rattle.std.specs.Prelude.{Option, Some, Result, Ok, Err, unwrap_or}
 use Rattle.std.proofs.lemmas.List.{take-append-drop}
 use Rattle.bson_wire.specs.declared.foreign.Foreign.{Foreign}
-use Rattle.bson_wire.specs.Grammar.{spells}
+use Rattle.bson_wire.specs.Grammar.{spells, spells_within}
 use Rattle.bson_wire.specs.declared.refused.ReadRefused.{ReadRefused}
 use Rattle.bson_wire.specs.declared.refused.ReadRefused.TheVariants.{Malformed, NoMemory}
 use Rattle.bson_wire.specs.Reading.{document_at, first, fault_of, Tells}
@@ -30,6 +30,16 @@ same-place place at is = cc
 pub fault-near : (bytes : List ℕ) (refused : ReadRefused) (at : ℕ) → Tells refused bytes → refused ≡ Malformed at → at ≤ length bytes
 fault-near bytes NoMemory at tells is = absurd cc
 fault-near bytes (Malformed place) at tells is = omega (arith, same-place place at is, not-past place (length bytes) (document_at 128 (length bytes) bytes) tells (document-not (length bytes) bytes))
+
+-- a document has its length and its end byte
+pub spelled-long : (document : List ℕ) (doc : Doc) (foreigns : List Foreign) → spells document doc foreigns → 5 ≤ length document
+unfolding spells_within
+spelled-long document doc foreigns is = omega (arith, ap length is.1.whole, length-append is.1.inside (0 ∷ []))
+
+-- what stands behind a document is shorter
+pub shorter-behind : (used : ℕ) (bytes rest : List ℕ) (doc : Doc) (foreigns : List Foreign) → used ≤ length bytes → spells (take used bytes) doc foreigns → rest ≡ drop used bytes → length rest < length bytes
+shorter-behind used bytes rest doc foreigns near is rest_is =
+    omega (arith, near, spelled-long (take used bytes) doc foreigns is, length-take used bytes, ap length rest_is, length-drop used bytes)
 
 pub fault-at : (place at : ℕ) (bytes : List ℕ) (refused : ReadRefused) → Tells refused bytes → refused ≡ Malformed at → in_message place (document_at 128 (length bytes) bytes) ≡ Err (Document, place + at)
 fault-at place at bytes NoMemory tells is = absurd cc

@@ -9,18 +9,16 @@ use Rattle.op_msg.specs.declared.message.Message.{Message}
 use Rattle.op_msg.specs.Stream.{message, in_order, frames, BeginsNone, TakenFrom}
 use Rattle.op_msg.specs.Reading.{Fault, stated, early, short, message_at, fault}
 use Rattle.op_msg.specs.Front.{Begins}
-use Rattle.op_msg.proofs.Messages.{append-nil, message-again}
+use Rattle.op_msg.proofs.Steps.{append-nil, same-found}
+use Rattle.op_msg.proofs.Messages.{message-again}
 use Rattle.op_msg.proofs.Fronts.{message-front, early-none, front-begins}
-
-same-message : (m n : Message) → ◌≡◌ {A = Result Message Fault} (Ok m) (Ok n) → m ≡ n
-same-message m n is = cc
 
 -- two messages at one front are the same, and so is what stands behind them
 front-one : (bytes one behind other behind' : List ℕ) (m n : Message) → bytes ≡ one ++ behind → bytes ≡ other ++ behind' → message one m → message other n → (m ≡ n) × (behind ≡ behind')
 front-one bytes one behind other behind' m n cut cut' is is' =
     let same : one ≡ other = message-front bytes one behind m cut is ∙ sym (message-front bytes other behind' n cut' is') in
     let rest : behind ≡ behind' = sym (drop_at one behind (length one) refl) ∙ ap (drop (length one)) (sym cut ∙ cut') ∙ drop_at other behind' (length one) (ap length (sym same)) in
-    (same-message m n (sym (message-again one m is) ∙ ap message_at same ∙ message-again other n is'), rest)
+    (same-found m n (sym (message-again one m is) ∙ ap message_at same ∙ message-again other n is'), rest)
 
 frames-one : (bytes : List ℕ) (ms ns : List Message) (rest rest' : List ℕ) → in_order bytes ms rest → BeginsNone rest → in_order bytes ns rest' → BeginsNone rest' → (ms ≡ ns) × (rest ≡ rest')
 frames-one bytes [] [] rest rest' one none other none' = (refl, sym one ∙ other)

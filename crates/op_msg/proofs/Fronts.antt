@@ -1,6 +1,7 @@
 -- What stands at the front of a stream: a message, a fault, or less than either.
 use Rattle.std.proofs.Common.{◌≡◌, ◌⊎◌, inl, inr, ℕ, ◌≤◌, Bool, true, false, ltb, eqb, ◌||◌, List, ◌++◌, length, take, drop, refl, sym, ap, subst, ◌∙◌, arith, length-append, length-drop}
 use Rattle.std.specs.Prelude.{Option, None, Some, Ok, if◌then◌else◌}
+use Rattle.std.specs.Option.{option_or}
 use Rattle.std.proofs.lemmas.Bool.{ltb-false, lt-ltb, le-ltb, eqb-true}
 use Rattle.std.proofs.lemmas.List.{take-append-drop, take-append-le, drop-append-le, take_at, length-take-le}
 use Rattle.byteorder.specs.Endian.{little_number}
@@ -9,7 +10,7 @@ use Rattle.bson_wire.proofs.Bytes.{IsBytes, IsBytes-front}
 use Rattle.op_msg.specs.declared.message.Message.{Message}
 use Rattle.op_msg.specs.declared.message.BadKind.TheVariants.{Length, OpCode}
 use Rattle.op_msg.specs.Stream.{InRange, message, BeginsNone}
-use Rattle.op_msg.specs.Reading.{Fault, stated, early, short, message_at, fault_of, first_of, fault}
+use Rattle.op_msg.specs.Reading.{Fault, stated, early, short, message_at, fault_of, fault}
 use Rattle.op_msg.specs.Front.{Begins}
 use Rattle.op_msg.proofs.Messages.{placed, message-again, message-takes}
 
@@ -140,7 +141,7 @@ late true less found f is = absurd cc
 late false true found f is = absurd cc
 late false false found f is = (refl, refl, is)
 
-fault-later : (bytes more : List ℕ) (found : Option Fault) (f : Fault) → early bytes ≡ found → first_of found (if ltb (length bytes) 16 || ltb (length bytes) (stated bytes) then None else fault_of (message_at (take (stated bytes) bytes))) ≡ Some f → fault (bytes ++ more) ≡ Some f
+fault-later : (bytes more : List ℕ) (found : Option Fault) (f : Fault) → early bytes ≡ found → option_or found (if ltb (length bytes) 16 || ltb (length bytes) (stated bytes) then None else fault_of (message_at (take (stated bytes) bytes))) ≡ Some f → fault (bytes ++ more) ≡ Some f
 unfolding fault
 fault-later bytes more (Some g) f is bad = rw (early-more bytes more g is) bad
 fault-later bytes more None f is bad =

@@ -1,5 +1,9 @@
+pub mod Steps
 pub mod Documents
-pub mod Inversions
+pub mod InOrder
+pub mod Parts
+pub mod Loops
+pub mod Contents
 pub mod Messages
 pub mod Fronts
 pub mod Framing

@@ -5,8 +5,8 @@ use Rattle.op_msg.specs.Reading.{Fault, short, fault}
 use Rattle.op_msg.specs.declared.message.Message.{Message}
 use Rattle.op_msg.specs.declared.message.Taken.{Taken}
 use Rattle.op_msg.specs.declared.message.Taken.TheVariants.{Whole, Short, Bad, NoMemory}
-use Rattle.op_msg.specs.declared.taking.Refused.{Refused}
-use Rattle.op_msg.specs.declared.taking.Refused.TheVariants as refused
+use Rattle.op_msg.specs.declared.refused.Refused.{Refused}
+use Rattle.op_msg.specs.declared.refused.Refused.TheVariants as refused
 
 -- the first bytes are the message
 pub record Begins (bytes : List ℕ) (m : Message) (used : ℕ) : Type 0 where

@@ -3,7 +3,9 @@
 
 mod laws;
 mod message;
+mod refused;
 mod reply;
+mod sections;
 mod taking;
 
 pub use laws::{
@@ -11,8 +13,10 @@ pub use laws::{
     the_pieces_of_a_stream_do_not_show,
 };
 pub use message::{BadKind, Message, Sequence, Taken};
-pub use reply::put_reply;
+pub use reply::{head, put_reply};
 pub use taking::take;
 
+#[cfg(test)]
+mod sequences;
 #[cfg(test)]
 mod tests;

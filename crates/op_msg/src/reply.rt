@@ -8,8 +8,8 @@ use bson_wire::write;
 use byteorder::{ByteOrder, LittleEndian};
 use std::alloc::Global;
 
-/// The bytes of a reply before its document, which has `size` bytes.
-fn head(number: i32, request: i32, size: usize) -> [u8; 21]
+/// The bytes of a reply to OP_MSG before its document, which has `size` bytes: what `put_reply` begins with. It takes no memory.
+pub fn head(number: i32, request: i32, size: u64) -> [u8; 21]
     requires { size ≤ 47999000 }
     ensures { result ≡ header number request size }
 {
@@ -34,7 +34,7 @@ pub fn put_reply(
 {
     let mut bytes = Bytes::of(alloc, &[0; 21])?;
     write(doc, &mut bytes)?;
-    let size = bytes.len() - 21;
+    let size = bytes.len() as u64 - 21;
     bytes.overwrite(0, &head(number, request, size));
     Ok(bytes)
 }

@@ -1,21 +1,13 @@
-ghost use Rattle.std.specs.Prelude.{◌≡◌, ◌≤◌, ◌<◌, ◌+◌, length, IfOk};
-ghost use Rattle.bson_wire.specs.Reading.{Before, document_at};
-ghost use Rattle.op_msg.specs.Stream.{moved};
-ghost use Rattle.op_msg.specs.Reading.{in_message, sections_at, section_at, body_at, message_at};
+ghost use Rattle.std.specs.Prelude.{◌≡◌, ◌≤◌, length, IfOk};
+ghost use Rattle.op_msg.specs.Reading.{sections_at, message_at};
 ghost use Rattle.op_msg.specs.Front.{Takes, Gives};
 
 use crate::message::{BadKind, Message, OP_MSG, Taken};
-use bson_values::{Document, List, head, tail};
-use bson_wire::{Foreign, ReadRefused, read};
+use crate::refused::Refused;
+use crate::sections::content;
+use bson_values::{head, tail};
 use byteorder::{ByteOrder, LittleEndian};
 use std::alloc::Global;
-
-/// Why no message was read.
-#[derive(Debug, Drop)]
-pub(crate) enum Refused {
-    Bad { kind: BadKind, place: u64 },
-    NoMemory,
-}
 
 /// The fewest and the most bytes of a message.
 const LEAST: u32 = 16;
@@ -50,99 +42,6 @@ fn sections(whole: &[u8]) -> Result<&[u8], Refused>
     Ok(tail(whole, 20))
 }
 
-/// A foreign element of a document that begins at `place`, with its place in the message.
-fn moved(foreign: Option<Foreign>, place: u64) -> Option<Foreign>
-    requires within { place ≤ 48000000 }
-    requires near { Before 48000000 foreign }
-    ensures { result ≡ moved place foreign }
-{
-    match foreign {
-        Some(it) => Some(Foreign {
-            code: it.code,
-            place: place + it.place,
-        }),
-        None => None,
-    }
-}
-
-/// The document at the front of some bytes of a message, which begin at `place`, its first foreign element, and the bytes behind it.
-fn document(
-    alloc: Global,
-    bytes: &[u8],
-    place: u64,
-) -> Result<(Document, Option<Foreign>, &[u8]), Refused>
-    requires { place + length bytes.now ≤ 48000000 }
-    ensures value { Gives (λ it. (it.0, it.1, it.2.now)) result
-        (in_message place (document_at 128 (length bytes.now) bytes.now)) }
-    ensures shorter { IfOk result (λ it. length it.2.now ≤ length bytes.now) }
-{
-    match read(alloc, bytes) {
-        Ok(front) => {
-            let foreign = moved(front.foreign, place);
-            Ok((front.doc, foreign, tail(bytes, front.used as usize)))
-        }
-        Err(ReadRefused::Malformed(at)) => Err(Refused::Bad {
-            kind: BadKind::Document,
-            place: place + at,
-        }),
-        Err(ReadRefused::NoMemory) => Err(Refused::NoMemory),
-    }
-}
-
-/// The document of a section of kind 0, whose kind byte stands at `place`, its first foreign element, and the bytes behind it.
-#[tactic(auto, unfolding(crate::specs::Reading::section_at))]
-fn section(
-    alloc: Global,
-    bytes: &[u8],
-    place: u64,
-) -> Result<(Document, Option<Foreign>, &[u8]), Refused>
-    requires some { 0 < length bytes.now }
-    requires near { place + length bytes.now ≤ 48000000 }
-    ensures value { Gives (λ it. (it.0, it.1, it.2.now)) result (section_at place bytes.now) }
-    ensures shorter { IfOk result (λ it. length it.2.now ≤ length bytes.now) }
-{
-    if bytes[0] != 0 {
-        return Err(Refused::Bad {
-            kind: BadKind::Section,
-            place,
-        });
-    }
-    if bytes.len() < 5 {
-        return Err(Refused::Bad {
-            kind: BadKind::Section,
-            place,
-        });
-    }
-    document(alloc, tail(bytes, 1), place + 1)
-}
-
-/// The body among the sections, which end at `end`, and its first foreign element.
-#[tactic(auto, unfolding(crate::specs::Reading::body_at))]
-fn body(alloc: Global, sections: &[u8], end: u64) -> Result<(Document, Option<Foreign>), Refused>
-    requires within { length sections.now ≤ end }
-    requires near { end ≤ 48000000 }
-    ensures { Gives (λ it. (it.0, it.1)) result (body_at end sections.now) }
-{
-    if sections.len() == 0 {
-        return Err(Refused::Bad {
-            kind: BadKind::Body,
-            place: end,
-        });
-    }
-    let (doc, foreign, rest) = section(alloc, sections, end - sections.len() as u64)?;
-    if rest.len() == 0 {
-        return Ok((doc, foreign));
-    }
-    let place = end - rest.len() as u64;
-    match section(alloc, rest, place) {
-        Ok(_) => Err(Refused::Bad {
-            kind: BadKind::Body,
-            place,
-        }),
-        Err(refused) => Err(refused),
-    }
-}
-
 /// Reads bytes that are as many as they state.
 #[tactic(auto, unfolding(crate::specs::Reading::message_at))]
 fn message(alloc: Global, whole: &[u8]) -> Result<Message, Refused>
@@ -151,13 +50,8 @@ fn message(alloc: Global, whole: &[u8]) -> Result<Message, Refused>
     ensures { Gives (λ it. it) result (message_at whole.now) }
 {
     let sections = sections(whole)?;
-    let (body, foreign) = body(alloc, sections, whole.len() as u64)?;
-    Ok(Message {
-        request: LittleEndian::read_i32(tail(whole, 4)),
-        body,
-        sequences: List::new(alloc),
-        foreign,
-    })
+    let request = LittleEndian::read_i32(tail(whole, 4));
+    content(alloc, request, sections, whole.len() as u64)
 }
 
 /// Takes the message at the front of the bytes of a stream. Faults are looked at in this order: with 4 bytes `Length`, with 16

@@ -1,0 +1,20 @@
+use crate::message::BadKind;
+use bson_values::NoMemory;
+
+/// Why no message was read.
+#[derive(Debug, Drop)]
+pub(crate) enum Refused {
+    Bad { kind: BadKind, place: u64 },
+    NoMemory,
+}
+
+impl From<NoMemory> for Refused {
+    ghost use Rattle.std.specs.Prelude.{◌≡◌};
+    ghost use Rattle.op_msg.specs.declared.refused.Refused.TheVariants as refused;
+
+    ghost from_gives = { λ _ it. it ≡ refused.NoMemory };
+
+    fn from(_wanting: NoMemory) -> Refused {
+        Refused::NoMemory
+    }
+}

@@ -25,7 +25,7 @@ depth_in layer = 0
 abbrev pub depth : Value → ℕ
 depth = fold-Value ℕ depth_in
 
--- all values in it are less deep
+-- the same of a layer, by the depths of the values in it
 abbrev pub layer_depth : Value-F Value → ℕ
 layer_depth layer = depth_in (map-Value Value ℕ depth layer)
 
@@ -35,6 +35,10 @@ depth_is = fold_out-Value ℕ depth_in
 -- a pair with the depth of its value
 abbrev pub with_depth : Pair Value → Pair ℕ
 with_depth pair = record { name = pair.name; value = depth pair.value }
+
+-- how deep the deepest of their values is
+abbrev pub pairs_depth : List (Pair Value) → ℕ
+pairs_depth pairs = most (map (λ (pair : Pair ℕ). pair.value) (map with_depth pairs))
 
 -- ---- so many levels
 
@@ -46,16 +50,20 @@ within (suc levels) one other = layer_cmp rank_of (within levels) (out-Value one
 abbrev Agrees : ℕ → Type 0
 Agrees levels = (one : Value) → depth one < levels → (other : Value) → compared one other ≡ within levels one other
 
-pairs_agree : (levels : ℕ) → Agrees levels → (pairs others : List (Pair Value)) → most (map (λ (pair : Pair ℕ). pair.value) (map with_depth pairs)) < levels
+pairs_agree : (levels : ℕ) → Agrees levels → (pairs others : List (Pair Value)) → pairs_depth pairs < levels
     → slice_cmp (pair_cmp rank_of compared) pairs others ≡ slice_cmp (pair_cmp rank_of (within levels)) pairs others
 pairs_agree levels agree [] [] below = refl
 pairs_agree levels agree [] (other ∷ others) below = refl
 pairs_agree levels agree (pair ∷ pairs) [] below = refl
 pairs_agree levels agree (pair ∷ pairs) (other ∷ others) below =
-    ap (λ (last : Ordering). ordering_then (ordering_then (nat_cmp (rank_of pair.value) (rank_of other.value)) (ordering_then (bytes_cmp pair.name other.name) last)) (slice_cmp (pair_cmp rank_of compared) pairs others)) (agree pair.value (omega arith) other.value)
+    let ranks = nat_cmp (rank_of pair.value) (rank_of other.value) in
+    let names = bytes_cmp pair.name other.name in
+    let rest = slice_cmp (pair_cmp rank_of compared) pairs others in
+    ap (λ (last : Ordering). ordering_then (ordering_then ranks (ordering_then names last)) rest) (agree pair.value (omega arith) other.value)
     ∙ ap (λ (rest : Ordering). ordering_then (pair_cmp rank_of (within levels) pair other) rest) (pairs_agree levels agree pairs others (omega arith))
 
-items_agree : (levels : ℕ) → Agrees levels → (items others : List Value) → most (map depth items) < levels → slice_cmp compared items others ≡ slice_cmp (within levels) items others
+items_agree : (levels : ℕ) → Agrees levels → (items others : List Value) → most (map depth items) < levels
+    → slice_cmp compared items others ≡ slice_cmp (within levels) items others
 items_agree levels agree [] [] below = refl
 items_agree levels agree [] (other ∷ others) below = refl
 items_agree levels agree (item ∷ items) [] below = refl
@@ -63,7 +71,8 @@ items_agree levels agree (item ∷ items) (other ∷ others) below =
     ap (λ (first : Ordering). ordering_then first (slice_cmp compared items others)) (agree item (omega arith) other)
     ∙ ap (λ (rest : Ordering). ordering_then (within levels item other) rest) (items_agree levels agree items others (omega arith))
 
-layers_agree : (levels : ℕ) → Agrees levels → (layer other : Value-F Value) → layer_depth layer < suc levels → layer_cmp rank_of compared layer other ≡ layer_cmp rank_of (within levels) layer other
+layers_agree : (levels : ℕ) → Agrees levels → (layer other : Value-F Value) → layer_depth layer < suc levels
+    → layer_cmp rank_of compared layer other ≡ layer_cmp rank_of (within levels) layer other
 layers_agree levels agree (Value-F.Doc pairs) (Value-F.Doc others) below = pairs_agree levels agree pairs others (omega arith)
 layers_agree levels agree (Value-F.Arr items) (Value-F.Arr others) below = items_agree levels agree items others (omega arith)
 layers_agree levels agree layer other below = refl

@@ -23,7 +23,7 @@ use Rattle.bson_order.specs.Key.{int64, counted, cstring, string, bool, binary, 
 use Rattle.bson_order.specs.Plain.{HasNoNul, IsPlainLayer, IsPlain}
 use Rattle.bson_order.proofs.Ties.{both_tied, equal_tied}
 use Rattle.bson_order.proofs.Layers.{compared_is}
-use Rattle.bson_order.proofs.Depths.{most, depth, with_depth, layer_depth, depth_is}
+use Rattle.bson_order.proofs.Depths.{most, depth, pairs_depth, layer_depth, depth_is}
 use Rattle.bson_order.proofs.Total.{same_rank}
 use Rattle.bson_order.proofs.Helds.{held_layer, held_is}
 use Rattle.bson_order.proofs.Plains.{PlainPairs, PlainItems, HoldsPlain, holds_plain}
@@ -47,24 +47,29 @@ length-element name it rest = omega (arith, length-append (element_of name it) r
 
 -- equal bytes at the front, behind one type byte, are of values that are the same
 abbrev AreTold : ℕ → Type 0
-AreTold levels = (one : Value) → depth one < levels → (other : Value) → IsPlain one → IsPlain other → (x y : List ℕ) → length (held one).1 < 2 ^ 63 → length (held other).1 < 2 ^ 63 → (held one).0 ≡ (held other).0
+AreTold levels = (one : Value) → depth one < levels → (other : Value) → IsPlain one → IsPlain other → (x y : List ℕ)
+    → length (held one).1 < 2 ^ 63 → length (held other).1 < 2 ^ 63 → (held one).0 ≡ (held other).0
     → (held one).1 ++ x ≡ (held other).1 ++ y → Same one other × (x ≡ y)
 
 -- one element, and what is behind it
-element_told : (levels : ℕ) → AreTold levels → (name label : List ℕ) (one other : Value) (x y : List ℕ) → depth one < levels → HasNoNul name → HasNoNul label → IsPlain one → IsPlain other → length (held one).1 < 2 ^ 63 → length (held other).1 < 2 ^ 63
+element_told : (levels : ℕ) → AreTold levels → (name label : List ℕ) (one other : Value) (x y : List ℕ) → depth one < levels
+    → HasNoNul name → HasNoNul label → IsPlain one → IsPlain other → length (held one).1 < 2 ^ 63 → length (held other).1 < 2 ^ 63
     → element_of name (held one) ++ x ≡ element_of label (held other) ++ y → (name ≡ label) × Same one other × (x ≡ y)
 element_told levels are name label one other x y below plain like fine alike small few whole =
     let codes : (held one).0 ≡ (held other).0 = cc in
     let behind = ap (λ (all : List ℕ). drop 1 all) whole in
-    let named = name_cut name label ((held one).1 ++ x) ((held other).1 ++ y) plain like (sym (append_assoc (cstring name) (held one).1 x) ∙ behind ∙ append_assoc (cstring label) (held other).1 y) in
+    let named = name_cut name label ((held one).1 ++ x) ((held other).1 ++ y) plain like
+    (sym (append_assoc (cstring name) (held one).1 x) ∙ behind ∙ append_assoc (cstring label) (held other).1 y) in
     let valued = are one below other fine alike x y small few codes named.1 in
     (named.0, valued.0, valued.1)
 
 abbrev Named : Pair Value → Type 0
 Named pair = HasNoNul pair.name
 
-pairs_told : (levels : ℕ) → AreTold levels → (pairs others : List (Pair Value)) → most (map (λ (pair : Pair ℕ). pair.value) (map with_depth pairs)) < levels → All Named pairs → All Named others → PlainPairs pairs → PlainPairs others
-    → length (flat_map element pairs) < 2 ^ 63 → length (flat_map element others) < 2 ^ 63 → flat_map element pairs ≡ flat_map element others → slice_cmp (pair_cmp rank_of compared) pairs others ≡ Equal
+pairs_told : (levels : ℕ) → AreTold levels → (pairs others : List (Pair Value)) → pairs_depth pairs < levels
+    → All Named pairs → All Named others → PlainPairs pairs → PlainPairs others
+    → length (flat_map element pairs) < 2 ^ 63 → length (flat_map element others) < 2 ^ 63
+    → flat_map element pairs ≡ flat_map element others → slice_cmp (pair_cmp rank_of compared) pairs others ≡ Equal
 pairs_told levels are [] [] below names labels plain like small few whole = refl
 pairs_told levels are [] (other ∷ others) below names labels plain like small few whole = absurd (cc (whole ∙ flat_map-cons element other others))
 pairs_told levels are (pair ∷ pairs) [] below names labels plain like small few whole = absurd (cc (sym (flat_map-cons element pair pairs) ∙ whole))
@@ -73,14 +78,17 @@ pairs_told levels are (pair ∷ pairs) (other ∷ others) below names labels pla
     let parted = flat_map-cons element other others in
     let long = ap length split ∙ length-element pair.name (held pair.value) (flat_map element pairs) in
     let far = ap length parted ∙ length-element other.name (held other.value) (flat_map element others) in
-    let first = element_told levels are pair.name other.name pair.value other.value (flat_map element pairs) (flat_map element others) (omega arith) (All-head Named pair pairs names) (All-head Named other others labels) plain.0 like.0 (omega arith) (omega arith) (sym split ∙ whole ∙ parted) in
-    let rest = pairs_told levels are pairs others (omega arith) (All-tail Named pair pairs names) (All-tail Named other others labels) plain.1 like.1 (omega arith) (omega arith) first.2 in
+    let first = element_told levels are pair.name other.name pair.value other.value (flat_map element pairs) (flat_map element others) (omega arith)
+    (All-head Named pair pairs names) (All-head Named other others labels) plain.0 like.0 (omega arith) (omega arith) (sym split ∙ whole ∙ parted) in
+    let rest = pairs_told levels are pairs others (omega arith)
+    (All-tail Named pair pairs names) (All-tail Named other others labels) plain.1 like.1 (omega arith) (omega arith) first.2 in
     let named = equal_tied nat_list_cmp_total pair.name other.name first.0 in
     both_tied _ _ (both_tied _ _ (same_rank pair.value other.value first.1) (both_tied _ _ named first.1)) rest
 
 -- items at one place have one name
 items_told : (levels : ℕ) → AreTold levels → (place : ℕ) (items others : List Value) → most (map depth items) < levels → PlainItems items → PlainItems others
-    → length (items_from place (map held items)) < 2 ^ 63 → length (items_from place (map held others)) < 2 ^ 63 → items_from place (map held items) ≡ items_from place (map held others) → slice_cmp compared items others ≡ Equal
+    → length (items_from place (map held items)) < 2 ^ 63 → length (items_from place (map held others)) < 2 ^ 63
+    → items_from place (map held items) ≡ items_from place (map held others) → slice_cmp compared items others ≡ Equal
 items_told levels are place [] [] below plain like small few whole = refl
 items_told levels are place [] (other ∷ others) below plain like small few whole = absurd cc
 items_told levels are place (item ∷ items) [] below plain like small few whole = absurd cc
@@ -99,7 +107,8 @@ items_told levels are place (item ∷ items) (other ∷ others) below plain like
 
 -- ---- one level
 
-texts_told : (one other x y : List ℕ) → length (string one) < 2 ^ 63 → length (string other) < 2 ^ 63 → string one ++ x ≡ string other ++ y → (bytes_cmp one other ≡ Equal) × (x ≡ y)
+texts_told : (one other x y : List ℕ) → length (string one) < 2 ^ 63 → length (string other) < 2 ^ 63
+    → string one ++ x ≡ string other ++ y → (bytes_cmp one other ≡ Equal) × (x ≡ y)
 texts_told one other x y small few whole =
     let long = length-counted (length one + 1) (cstring one) in
     let far = length-counted (length other + 1) (cstring other) in
@@ -108,7 +117,8 @@ texts_told one other x y small few whole =
     let both = held_cut (length one + 1) (length other + 1) (cstring one) (cstring other) x y (omega arith) (omega arith) (λ same. omega arith) whole in
     (equal_tied nat_list_cmp_total one other (append_cancel_right one other (0 ∷ []) both.0), both.1)
 
-inside_told : (one other x y : List ℕ) → length (enclosed one) < 2 ^ 63 → length (enclosed other) < 2 ^ 63 → enclosed one ++ x ≡ enclosed other ++ y → (one ≡ other) × (length one < 2 ^ 63) × (length other < 2 ^ 63) × (x ≡ y)
+inside_told : (one other x y : List ℕ) → length (enclosed one) < 2 ^ 63 → length (enclosed other) < 2 ^ 63
+    → enclosed one ++ x ≡ enclosed other ++ y → (one ≡ other) × (length one < 2 ^ 63) × (length other < 2 ^ 63) × (x ≡ y)
 inside_told one other x y small few whole =
     let is = enclosed_is one in
     let as_is = enclosed_is other in
@@ -120,7 +130,8 @@ inside_told one other x y small few whole =
     (ap (λ (all : List ℕ). all ++ x) (sym is) ∙ whole ∙ ap (λ (all : List ℕ). all ++ y) as_is) in
     (append_cancel_right one other (0 ∷ []) both.0, omega arith, omega arith, both.1)
 
-binaries_told : (kind sort : ℕ) (one other x y : List ℕ) → length (binary kind one) < 2 ^ 63 → length (binary sort other) < 2 ^ 63 → binary kind one ++ x ≡ binary sort other ++ y
+binaries_told : (kind sort : ℕ) (one other x y : List ℕ) → length (binary kind one) < 2 ^ 63 → length (binary sort other) < 2 ^ 63
+    → binary kind one ++ x ≡ binary sort other ++ y
     → (ordering_then (nat_cmp (length one) (length other)) (bytes_cmp (kind ∷ one) (sort ∷ other)) ≡ Equal) × (x ≡ y)
 binaries_told kind sort one other x y small few whole =
     let long = length-counted (length one) (kind ∷ one) in
@@ -129,14 +140,17 @@ binaries_told kind sort one other x y small few whole =
     let lengths : length one ≡ length other = omega (arith, ap length both.0) in
     (both_tied _ _ (equal_tied nat_cmp_total (length one) (length other) lengths) (equal_tied nat_list_cmp_total (kind ∷ one) (sort ∷ other) both.0), both.1)
 
-regexes_told : (one options other flags x y : List ℕ) → HasNoNul one → HasNoNul options → HasNoNul other → HasNoNul flags → (cstring one ++ cstring options) ++ x ≡ (cstring other ++ cstring flags) ++ y
+regexes_told : (one options other flags x y : List ℕ) → HasNoNul one → HasNoNul options → HasNoNul other → HasNoNul flags
+    → (cstring one ++ cstring options) ++ x ≡ (cstring other ++ cstring flags) ++ y
     → (ordering_then (bytes_cmp one other) (bytes_cmp options flags) ≡ Equal) × (x ≡ y)
 regexes_told one options other flags x y plain fine like alike whole =
-    let first = name_cut one other (cstring options ++ x) (cstring flags ++ y) plain like (sym (append_assoc (cstring one) (cstring options) x) ∙ whole ∙ append_assoc (cstring other) (cstring flags) y) in
+    let first = name_cut one other (cstring options ++ x) (cstring flags ++ y) plain like
+    (sym (append_assoc (cstring one) (cstring options) x) ∙ whole ∙ append_assoc (cstring other) (cstring flags) y) in
     let second = name_cut options flags x y fine alike first.1 in
     (both_tied _ _ (equal_tied nat_list_cmp_total one other first.0) (equal_tied nat_list_cmp_total options flags second.0), second.1)
 
-longs_told : (one other : ℤ) (x y : List ℕ) → FitsSigned w64 one → FitsSigned w64 other → int64 (cast_unsigned w64 one) ++ x ≡ int64 (cast_unsigned w64 other) ++ y → (int_cmp one other ≡ Equal) × (x ≡ y)
+longs_told : (one other : ℤ) (x y : List ℕ) → FitsSigned w64 one → FitsSigned w64 other
+    → int64 (cast_unsigned w64 one) ++ x ≡ int64 (cast_unsigned w64 other) ++ y → (int_cmp one other ≡ Equal) × (x ≡ y)
 longs_told one other x y fits like whole = let both = long_cut one other x y fits like whole in (equal_tied int_cmp_total one other both.0, both.1)
 
 widened : (number : ℤ) → FitsSigned w32 number → FitsSigned w64 number
@@ -154,7 +168,8 @@ record IsShort (layer : Value-F Value) : Type 0 where
   holds : HoldsPlain layer
   short : length (held_layer layer).1 < 2 ^ 63
 
-layers_told : (levels : ℕ) → AreTold levels → (layer like : Value-F Value) (x y : List ℕ) → layer_depth layer < suc levels → IsShort layer → IsShort like → (held_layer layer).0 ≡ (held_layer like).0 → (held_layer layer).1 ++ x ≡ (held_layer like).1 ++ y
+layers_told : (levels : ℕ) → AreTold levels → (layer like : Value-F Value) (x y : List ℕ) → layer_depth layer < suc levels → IsShort layer → IsShort like
+    → (held_layer layer).0 ≡ (held_layer like).0 → (held_layer layer).1 ++ x ≡ (held_layer like).1 ++ y
     → (layer_cmp rank_of compared layer like ≡ Equal) × (x ≡ y)
 layers_told levels are (Value-F.Int number) (Value-F.Int other) x y below is same codes whole = longs_told number other x y (widened number is.plain) (widened other same.plain) whole
 layers_told levels are (Value-F.Int number) (Value-F.Long other) x y below is same codes whole = longs_told number other x y (widened number is.plain) same.plain whole

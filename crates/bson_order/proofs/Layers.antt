@@ -49,7 +49,9 @@ pairs_map [] [] = refl
 pairs_map [] (other ∷ others) = refl
 pairs_map (pair ∷ pairs) [] = refl
 pairs_map (pair ∷ pairs) (other ∷ others) =
-    ap (λ (n : ℕ). ordering_then (ordering_then (nat_cmp n (rank_of other.value)) (ordering_then (bytes_cmp pair.name other.name) (compared pair.value other.value))) (slice_cmp (pair_cmp rank beside) (map along pairs) others)) (side_rank pair.value)
+    let behind = ordering_then (bytes_cmp pair.name other.name) (compared pair.value other.value) in
+    let rest = slice_cmp (pair_cmp rank beside) (map along pairs) others in
+    ap (λ (n : ℕ). ordering_then (ordering_then (nat_cmp n (rank_of other.value)) behind) rest) (side_rank pair.value)
     ∙ ap (λ (rest : Ordering). ordering_then (pair_cmp rank_of compared pair other) rest) (pairs_map pairs others)
 
 items_map : (items others : List Value) → slice_cmp beside (map side items) others ≡ slice_cmp compared items others

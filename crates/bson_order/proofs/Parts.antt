@@ -25,20 +25,22 @@ number_cut one other x y fits like whole =
       sym (drop_at (int64 one) x 8 (length-bytes_low_first 0 8 one)) ∙ rest ∙ drop_at (int64 other) y 8 (length-bytes_low_first 0 8 other),
     )
 
-pub long_cut : (one other : ℤ) (x y : List ℕ) → FitsSigned w64 one → FitsSigned w64 other → int64 (cast_unsigned w64 one) ++ x ≡ int64 (cast_unsigned w64 other) ++ y → (one ≡ other) × (x ≡ y)
+pub long_cut : (one other : ℤ) (x y : List ℕ) → FitsSigned w64 one → FitsSigned w64 other
+    → int64 (cast_unsigned w64 one) ++ x ≡ int64 (cast_unsigned w64 other) ++ y → (one ≡ other) × (x ≡ y)
 long_cut one other x y fits like whole =
     let below : cast_unsigned w64 one < 2 ^ 64 = omega (arith, ints) in
     let under : cast_unsigned w64 other < 2 ^ 64 = omega (arith, ints) in
     let both = number_cut (cast_unsigned w64 one) (cast_unsigned w64 other) x y below under whole in
     (sym (to_z-of_z w64 one fits) ∙ ap (λ (bits : ℕ). cast_signed w64 bits) both.0 ∙ to_z-of_z w64 other like, both.1)
 
-pub counted_cut : (one other : ℕ) (x y : List ℕ) → one < 2 ^ 63 → other < 2 ^ 63 → counted one ++ x ≡ counted other ++ y → (one ≡ other) × (x ≡ y)
+counted_cut : (one other : ℕ) (x y : List ℕ) → one < 2 ^ 63 → other < 2 ^ 63 → counted one ++ x ≡ counted other ++ y → (one ≡ other) × (x ≡ y)
 counted_cut one other x y small like whole =
     let both = number_cut (min one (2 ^ 63 - 1)) (min other (2 ^ 63 - 1)) x y (omega arith) (omega arith) whole in
     (omega (arith, both.0), both.1)
 
 -- a length, and what is so long
-pub held_cut : (one other : ℕ) (inside within x y : List ℕ) → one < 2 ^ 63 → other < 2 ^ 63 → (one ≡ other → length inside ≡ length within) → (counted one ++ inside) ++ x ≡ (counted other ++ within) ++ y
+pub held_cut : (one other : ℕ) (inside within x y : List ℕ) → one < 2 ^ 63 → other < 2 ^ 63 → (one ≡ other → length inside ≡ length within)
+    → (counted one ++ inside) ++ x ≡ (counted other ++ within) ++ y
     → (inside ≡ within) × (x ≡ y)
 held_cut one other inside within x y small like long whole =
     let both = counted_cut one other (inside ++ x) (within ++ y) small like (sym (append_assoc (counted one) inside x) ∙ whole ∙ append_assoc (counted other) within y) in

@@ -18,7 +18,7 @@ use Rattle.bson_order.specs.Order.{rank_of, bytes_cmp, binary_cmp, regex_cmp, pa
 use Rattle.bson_order.specs.Key.{int64, cstring, string, bool, binary, enclosed, element_of, items_from, held, element, key}
 use Rattle.bson_order.proofs.Ties.{first_tied, second_tied}
 use Rattle.bson_order.proofs.Layers.{compared_is}
-use Rattle.bson_order.proofs.Depths.{most, depth, layer_depth, depth_is, with_depth}
+use Rattle.bson_order.proofs.Depths.{most, depth, pairs_depth, layer_depth, depth_is}
 use Rattle.bson_order.proofs.Helds.{held_layer, held_is}
 
 nat_tied : (one other : ℕ) → nat_cmp one other ≡ Equal → one ≡ other
@@ -55,11 +55,12 @@ regex_tied one other tied =
     let options = bytes_tied one.options other.options (second_tied (bytes_cmp one.pattern other.pattern) (bytes_cmp one.options other.options) tied) in
     ap (λ (text : List ℕ). cstring text ++ cstring one.options) patterns ∙ ap (λ (text : List ℕ). cstring other.pattern ++ cstring text) options
 
+-- values of fewer levels that are the same hold the same
 abbrev AreTied : ℕ → Type 0
 AreTied levels = (one : Value) → depth one < levels → (other : Value) → Same one other → held one ≡ held other
 
-pairs_tied : (levels : ℕ) → AreTied levels → (pairs others : List (Pair Value)) → most (map (λ (pair : Pair ℕ). pair.value) (map with_depth pairs)) < levels → slice_cmp (pair_cmp rank_of compared) pairs others ≡ Equal
-    → flat_map element pairs ≡ flat_map element others
+pairs_tied : (levels : ℕ) → AreTied levels → (pairs others : List (Pair Value)) → pairs_depth pairs < levels
+    → slice_cmp (pair_cmp rank_of compared) pairs others ≡ Equal → flat_map element pairs ≡ flat_map element others
 pairs_tied levels are [] [] below tied = refl
 pairs_tied levels are [] (other ∷ others) below tied = absurd cc
 pairs_tied levels are (pair ∷ pairs) [] below tied = absurd cc
@@ -75,7 +76,8 @@ pairs_tied levels are (pair ∷ pairs) (other ∷ others) below tied =
     ∙ ap (λ (all : List ℕ). element other ++ all) rest
     ∙ sym (flat_map-cons element other others)
 
-items_tied : (levels : ℕ) → AreTied levels → (place : ℕ) (items others : List Value) → most (map depth items) < levels → slice_cmp compared items others ≡ Equal → items_from place (map held items) ≡ items_from place (map held others)
+items_tied : (levels : ℕ) → AreTied levels → (place : ℕ) (items others : List Value) → most (map depth items) < levels
+    → slice_cmp compared items others ≡ Equal → items_from place (map held items) ≡ items_from place (map held others)
 items_tied levels are place [] [] below tied = refl
 items_tied levels are place [] (other ∷ others) below tied = absurd cc
 items_tied levels are place (item ∷ items) [] below tied = absurd cc
@@ -87,7 +89,8 @@ items_tied levels are place (item ∷ items) (other ∷ others) below tied =
 numbers_tied : (one other : ℤ) → int_cmp one other ≡ Equal → ◌≡◌ {A = ℕ × List ℕ} (18, int64 (cast_unsigned w64 one)) (18, int64 (cast_unsigned w64 other))
 numbers_tied one other tied = ap (λ (number : ℤ). (18, int64 (cast_unsigned w64 number))) (int_tied one other tied)
 
-layers_tied : (levels : ℕ) → AreTied levels → (layer like : Value-F Value) → layer_depth layer < suc levels → layer_cmp rank_of compared layer like ≡ Equal → held_layer layer ≡ held_layer like
+layers_tied : (levels : ℕ) → AreTied levels → (layer like : Value-F Value) → layer_depth layer < suc levels
+    → layer_cmp rank_of compared layer like ≡ Equal → held_layer layer ≡ held_layer like
 layers_tied levels are (Value-F.Int number) (Value-F.Int other) below tied = numbers_tied number other tied
 layers_tied levels are (Value-F.Int number) (Value-F.Long other) below tied = numbers_tied number other tied
 layers_tied levels are (Value-F.Long number) (Value-F.Int other) below tied = numbers_tied number other tied

@@ -20,6 +20,10 @@ second_tied Greater second tied = absurd cc
 pub both_tied : (first second : Ordering) → first ≡ Equal → second ≡ Equal → ordering_then first second ≡ Equal
 both_tied first second one other = ap (λ (it : Ordering). ordering_then it second) one ∙ other
 
+-- what is compared first decides, unless it is tied
+pub first_decides : (first second : Ordering) → first ≡ Less → ordering_then first second ≡ Less
+first_decides first second less = ap (λ (it : Ordering). ordering_then it second) less
+
 -- what is equal is tied
 pub equal_tied : {K : Type 0} {order : K → K → Ordering} → IsTotalOrder order → (one other : K) → one ≡ other → order one other ≡ Equal
 equal_tied {K} {order} total one other is = ap (λ (it : K). order one it) (sym is) ∙ tied_itself total one

@@ -1,17 +1,18 @@
 -- The comparison is a total order.
-use Rattle.std.proofs.Common.{◌≡◌, ℕ, ℤ, zero, suc, ◌+◌, Bool, true, false, List, [], ◌∷◌, length, pos, refl, sym, ap, subst, ◌∙◌, arith}
+use Rattle.std.proofs.Common.{◌≡◌, ◌<◌, ℕ, ℤ, zero, suc, ◌+◌, Bool, true, false, List, [], ◌∷◌, length, pos, refl, sym, ap, subst, ◌∙◌, arith}
 use Rattle.std.specs.declared.cmp.Ordering.{Ordering}
 use Rattle.std.specs.declared.cmp.Ordering.TheVariants.{Less, Equal, Greater}
 use Rattle.std.specs.Ordering.{nat_cmp, int_cmp, bool_cmp, ordering_then, ordering_reverse, then_cmp, on}
 use Rattle.std.specs.Cmp.{IsTotalOrder}
 use Rattle.std.specs.Cmp.Lexicographic.{slice_cmp}
+use Rattle.std.proofs.lemmas.Bool.Decides.{nat_tests}
 use Rattle.std.proofs.lemmas.Cmp.{nat_cmp_total, int_cmp_total, nat_list_cmp_total, on_total, then_total, lists_total}
 use Rattle.bson_values.specs.declared.pairs.Pair.{Pair}
 use Rattle.bson_values.specs.declared.value.Value.{Value}
 use Rattle.bson_values.specs.declared.value.Value.TheViews.{out-Value}
 use Rattle.bson_values.specs.declared.value.Value.TheOpen.{Value-F}
-use Rattle.bson_order.specs.Order.{rank_in, rank_of, bytes_cmp, pair_cmp, layer_cmp, compared, Same}
-use Rattle.bson_order.proofs.Ties.{first_tied}
+use Rattle.bson_order.specs.Order.{rank_in, rank_of, bytes_cmp, pair_cmp, layer_cmp, compared, Below, Same}
+use Rattle.bson_order.proofs.Ties.{first_tied, first_decides}
 use Rattle.bson_order.proofs.Layers.{compared_is}
 use Rattle.bson_order.proofs.Depths.{depth, within, agrees}
 
@@ -129,6 +130,12 @@ compared_total = record {
       let levels = depth x + depth y + 1 in
       agrees levels x (omega arith) z ∙ (within_total levels).congr x y z (sym (agrees levels x (omega arith) y) ∙ same) ∙ sym (agrees levels y (omega arith) z);
 }
+
+-- a value of a lower rank is below
+pub lower_rank : (one other : Value) → rank_of one < rank_of other → Below one other
+lower_rank one other lower =
+    let ranks : nat_cmp (rank_of one) (rank_of other) ≡ Less = grind (arith, nat_tests) in
+    compared_is one other ∙ chain_is compared (out-Value one) (out-Value other) ∙ first_decides (nat_cmp (rank_of one) (rank_of other)) _ ranks
 
 -- values that are the same have one rank
 pub same_rank : (one other : Value) → Same one other → nat_cmp (rank_of one) (rank_of other) ≡ Equal

@@ -1,4 +1,4 @@
--- The bytes by which rows are told apart: BSON 1.1 with each int as a long and each length as an int64.
+-- The bytes by which rows are told apart: BSON 1.1 (bsonspec.org) with each int as a long, and each length as an int64 of the bytes here.
 use Rattle.std.specs.Prelude.{ℕ, ◌+◌, ◌-◌, ◌^◌, min, Bool, if◌then◌else◌, List, [], ◌∷◌, ◌++◌, length}
 use Rattle.std.specs.Fmt.{decimal}
 use Rattle.std.specs.Int.{w64, cast_unsigned}
@@ -13,7 +13,7 @@ use Rattle.bson_values.specs.declared.value.Value.TheFolds.{fold-Value}
 abbrev pub int64 : ℕ → List ℕ
 int64 number = little_bytes 8 number
 
--- a length, which is not above the highest int64
+-- a length, at most the highest int64
 abbrev pub counted : ℕ → List ℕ
 counted len = int64 (min len (2 ^ 63 - 1))
 
@@ -69,5 +69,6 @@ held = fold-Value (ℕ × List ℕ) held_in
 abbrev pub element : Pair Value → List ℕ
 element pair = element_of pair.name (held pair.value)
 
+-- the two as one list
 abbrev pub key : Value → List ℕ
 key it = (held it).0 ∷ (held it).1

@@ -1,4 +1,4 @@
--- The order of values: MongoDB's comparison, in twelve types.
+-- The order of values: MongoDB Manual, "Comparison/Sort Order", in twelve types.
 use Rattle.std.specs.Prelude.{ℕ, ◌≡◌, Bool, List, length}
 use Rattle.std.specs.declared.cmp.Ordering.{Ordering}
 use Rattle.std.specs.declared.cmp.Ordering.TheVariants.{Less, Equal}
@@ -26,6 +26,7 @@ rank_in (Value-F.Date moment) = 8
 rank_in (Value-F.Stamp stamp) = 9
 rank_in (Value-F.Regex regex) = 10
 
+-- the place of a value's type
 abbrev pub rank_of : Value → ℕ
 rank_of it = rank_in (out-Value it)
 
@@ -35,7 +36,9 @@ bytes_cmp one other = slice_cmp nat_cmp one other
 
 -- length, subtype, bytes
 abbrev pub binary_cmp : Binary → Binary → Ordering
-binary_cmp one other = ordering_then (nat_cmp (length one.bytes) (length other.bytes)) (ordering_then (nat_cmp one.subtype other.subtype) (bytes_cmp one.bytes other.bytes))
+binary_cmp one other =
+    ordering_then (nat_cmp (length one.bytes) (length other.bytes))
+    (ordering_then (nat_cmp one.subtype other.subtype) (bytes_cmp one.bytes other.bytes))
 
 -- pattern, options
 abbrev pub regex_cmp : Regex → Regex → Ordering
@@ -44,7 +47,9 @@ regex_cmp one other = ordering_then (bytes_cmp one.pattern other.pattern) (bytes
 module _ {A : Type 0} (rank : A → ℕ) (order : A → Value → Ordering) where
   -- a pair of one document beside one of another: rank of the value, name, value
   abbrev pub pair_cmp : Pair A → Pair Value → Ordering
-  pair_cmp one other = ordering_then (nat_cmp (rank one.value) (rank_of other.value)) (ordering_then (bytes_cmp one.name other.name) (order one.value other.value))
+  pair_cmp one other =
+      ordering_then (nat_cmp (rank one.value) (rank_of other.value))
+      (ordering_then (bytes_cmp one.name other.name) (order one.value other.value))
 
   -- a value beside another, by the rank and the order of the values in it; the list that ends first is less
   abbrev pub layer_cmp : Value-F A → Value-F Value → Ordering
@@ -68,8 +73,10 @@ pub record Side : Type 0 where
   pub rank : ℕ
   pub beside : Value → Ordering
 
+-- both, by those of the values in it
 abbrev pub side : Value → Side
-side = fold-Value Side (λ it. record { rank = rank_in it; beside = λ other. layer_cmp (λ s. s.rank) (λ s. s.beside) it (out-Value other) })
+side =
+    fold-Value Side (λ it. record { rank = rank_in it; beside = λ other. layer_cmp (λ s. s.rank) (λ s. s.beside) it (out-Value other) })
 
 -- whether the first is less, the same or greater
 abbrev pub compared : Value → Value → Ordering

@@ -16,7 +16,7 @@ fn put_int64(number: u64, out: &mut Bytes) -> Result<(), NoMemory>
     out.extend(&bytes)
 }
 
-/// A length of so much more, which is not above the highest int64.
+/// A length and so much more, at most the highest int64.
 fn stated(len: usize, more: u64) -> u64
     ensures { result ≡ min (len + more) (2 ^ 63 - 1) }
 {
@@ -45,14 +45,14 @@ fn put_binary(subtype: u8, bytes: &[u8], out: &mut Bytes) -> Result<(), NoMemory
     out.extend(bytes)
 }
 
-fn put_two(pattern: &str, options: &str, out: &mut Bytes) -> Result<(), NoMemory>
+fn put_regex(pattern: &str, options: &str, out: &mut Bytes) -> Result<(), NoMemory>
     ensures { OnOk result (out.new ≡ out.old ++ (cstring pattern.now ++ cstring options.now)) }
 {
     put_cstring(pattern, out)?;
     put_cstring(options, out)
 }
 
-/// The type byte of a value, where an int is a long.
+/// The BSON type byte of a value; an int has that of a long.
 #[tactic(auto, using(crate::proofs::Helds::held_is))]
 fn code(value: &Value) -> u8
     ensures { result ≡ (held value.now).0 }
@@ -88,7 +88,7 @@ fn put_content(value: &Value, out: &mut Bytes) -> Result<(), NoMemory>
         Value::Bool(false) => out.extend(&[0]),
         Value::Date(moment) => put_int64(moment.cast_unsigned(), out),
         Value::Null => Ok(()),
-        Value::Regex(regex) => put_two(regex.pattern.as_str(), regex.options.as_str(), out),
+        Value::Regex(regex) => put_regex(regex.pattern.as_str(), regex.options.as_str(), out),
         Value::Int(number) => put_int64(i64::from(*number).cast_unsigned(), out),
         Value::Stamp(stamp) => put_int64(*stamp, out),
         Value::Long(number) => put_int64(number.cast_unsigned(), out),
@@ -169,7 +169,10 @@ fn put_array(items: &List<Value>, out: &mut Bytes) -> Result<(), NoMemory>
     close(start, out)
 }
 
-/// Bytes by which a value is told apart: `a_key_tells_values_apart` says how.
+/// The bytes by which a value is told apart, as `a_key_tells_values_apart` says: its BSON type byte and its BSON value (bsonspec.org),
+/// with each int as a long, and each length as an int64.
+///
+/// `NoMemory` comes also for a key of 2^63 bytes or more.
 pub fn id_key(alloc: Global, value: &Value) -> Result<Bytes, NoMemory>
     ensures key { IfOk result (λ bytes. bytes ≡ key value.now) }
     ensures short { IfOk result (λ bytes. length bytes < 2 ^ 63) }

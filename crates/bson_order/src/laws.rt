@@ -11,6 +11,11 @@ pub fn values_compare_layer_by_layer()
     ensures { (a b : Value) → compared a b ≡ layer_cmp rank_of compared (out-Value a) (out-Value b) }
 {}
 
+/// Values of different types compare by their types, whatever they hold.
+pub fn a_lower_rank_comes_first()
+    ensures { (a b : Value) → rank_of a < rank_of b → Below a b }
+{}
+
 /// The order has the laws that sorting by it asks for.
 pub fn compared_is_a_total_order()
     ensures { IsTotalOrder compared }
@@ -42,7 +47,7 @@ pub fn same_values_stand_at_one_place()
     ensures below { (a b c : Value) → Same a b → Below c a ↔ Below c b }
 {}
 
-/// Keys of plain values are equal exactly where the values are the same, unless a key is so long that its lengths are cut.
+/// Keys of plain values are equal exactly where the values are the same, unless a key has 2^63 bytes or more, as no key of `id_key` has.
 pub fn a_key_tells_values_apart()
     ensures same { (a b : Value) → Same a b → key a ≡ key b }
     ensures only { (a b : Value) → IsPlain a → IsPlain b → length (key a) < 2 ^ 63 → key a ≡ key b → Same a b }

@@ -42,7 +42,7 @@ fn compare_regexes(a: &Regex, b: &Regex) -> Ordering
     patterns.then(options)
 }
 
-/// MongoDB's comparison of two values of the twelve types.
+/// MongoDB's comparison of two values: by rank, and within a rank by what they hold (MongoDB Manual, "Comparison/Sort Order").
 #[tactic(auto, using(crate::proofs::Layers::compared_is, crate::proofs::Layers::compared_documents, crate::proofs::Layers::compared_arrays))]
 #[cycle(compare)]
 pub fn compare(a: &Value, b: &Value) -> Ordering

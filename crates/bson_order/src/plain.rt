@@ -1,5 +1,4 @@
-ghost use Rattle.std.specs.Prelude.{◌≡◌, ◌↔◌, ◌<◌, ◌^◌, All, FitsSigned, IsTrue, length};
-ghost use Rattle.std.specs.Int.{w32, w64};
+ghost use Rattle.std.specs.Prelude.{◌≡◌, ◌↔◌, All, IsTrue, length};
 ghost use Rattle.bson_order.specs.Plain.{HasNoNul, IsPlain, IsPlainPair};
 
 use bson_values::{Document, List, Regex, Value};
@@ -15,30 +14,6 @@ fn id_is_whole(_id: &[u8; 12])
     ensures { length _id.now ≡ 12 }
 {}
 
-/// Reads a number: what is read fits its type.
-fn int_of(number: &i32) -> i32
-    ensures same { result ≡ number.now }
-    ensures fits { FitsSigned w32 result }
-{
-    *number
-}
-
-/// Reads a number: what is read fits its type.
-fn long_of(number: &i64) -> i64
-    ensures same { result ≡ number.now }
-    ensures fits { FitsSigned w64 result }
-{
-    *number
-}
-
-/// Reads a number: what is read fits its type.
-fn stamp_of(stamp: &u64) -> u64
-    ensures same { result ≡ stamp.now }
-    ensures fits { result < 2 ^ 64 }
-{
-    *stamp
-}
-
 fn is_plain_regex(regex: &Regex) -> bool
     ensures { IsTrue result ↔ HasNoNul regex.now.pattern × HasNoNul regex.now.options }
 {
@@ -50,6 +25,7 @@ fn is_plain_regex(regex: &Regex) -> bool
 pub fn is_plain(value: &Value) -> bool
     ensures { IsTrue result ↔ IsPlain value.now }
 {
+    // A number is read, so that it is known to fit its type.
     match value {
         Value::Str(_) => true,
         Value::Doc(document) => is_plain_document(document),
@@ -61,21 +37,21 @@ pub fn is_plain(value: &Value) -> bool
         }
         Value::Bool(_) => true,
         Value::Date(moment) => {
-            long_of(moment);
+            let _moment = *moment;
             true
         }
         Value::Null => true,
         Value::Regex(regex) => is_plain_regex(regex),
         Value::Int(number) => {
-            int_of(number);
+            let _number = *number;
             true
         }
         Value::Stamp(stamp) => {
-            stamp_of(stamp);
+            let _stamp = *stamp;
             true
         }
         Value::Long(number) => {
-            long_of(number);
+            let _number = *number;
             true
         }
     }

@@ -1,6 +1,4 @@
-use Rattle.std.proofs.Common.{◌<◌, ◌^◌, true, ap, subst, ◌∙◌}
-use Rattle.std.specs.Prelude.{FitsSigned}
-use Rattle.std.specs.Int.{w32, w64}
+use Rattle.std.proofs.Common.{true, ap, ◌∙◌}
 use Rattle.bson_values.specs.declared.value.Value.TheViews.{out-Value}
 use Rattle.bson_values.specs.declared.value.Value.TheVariants as value
 use Rattle.bson_values.specs.declared.value.Value.TheOpen.{Value-F}
@@ -27,7 +25,7 @@ pub is_plain-returns-in-Bool : goal.is_plain-returns-in-Bool
 is_plain-returns-in-Bool t c = plain_by _ (Value-F.Bool _) true (ap out-Value c.in-Bool.is ∙ value.outs-Bool _) (always tt)
 
 pub is_plain-returns-in-Date : goal.is_plain-returns-in-Date
-is_plain-returns-in-Date t c = plain_by _ (Value-F.Date _) true (ap out-Value c.in-Date.is ∙ value.outs-Date _) (always (subst (λ number. FitsSigned w64 number) c.long_of.ensures.same c.long_of.ensures.fits))
+is_plain-returns-in-Date t c = plain_by _ (Value-F.Date _) true (ap out-Value c.in-Date.is ∙ value.outs-Date _) (always search)
 
 pub is_plain-returns-in-Null : goal.is_plain-returns-in-Null
 is_plain-returns-in-Null t c = plain_by _ Value-F.Null true (ap out-Value c.in-Null.is ∙ value.outs-Null) (always tt)
@@ -36,13 +34,13 @@ pub is_plain-returns-in-Regex : goal.is_plain-returns-in-Regex
 is_plain-returns-in-Regex t c = plain_by _ (Value-F.Regex _) _ (ap out-Value c.in-Regex.is ∙ value.outs-Regex _) (c.is_plain_regex.ensures)
 
 pub is_plain-returns-in-Int : goal.is_plain-returns-in-Int
-is_plain-returns-in-Int t c = plain_by _ (Value-F.Int _) true (ap out-Value c.in-Int.is ∙ value.outs-Int _) (always (subst (λ number. FitsSigned w32 number) c.int_of.ensures.same c.int_of.ensures.fits))
+is_plain-returns-in-Int t c = plain_by _ (Value-F.Int _) true (ap out-Value c.in-Int.is ∙ value.outs-Int _) (always search)
 
 pub is_plain-returns-in-Stamp : goal.is_plain-returns-in-Stamp
-is_plain-returns-in-Stamp t c = plain_by _ (Value-F.Stamp _) true (ap out-Value c.in-Stamp.is ∙ value.outs-Stamp _) (always (subst (λ stamp. stamp < 2 ^ 64) c.stamp_of.ensures.same c.stamp_of.ensures.fits))
+is_plain-returns-in-Stamp t c = plain_by _ (Value-F.Stamp _) true (ap out-Value c.in-Stamp.is ∙ value.outs-Stamp _) (always search)
 
 pub is_plain-returns-in-Long : goal.is_plain-returns-in-Long
-is_plain-returns-in-Long t c = plain_by _ (Value-F.Long _) true (ap out-Value c.in-Long.is ∙ value.outs-Long _) (always (subst (λ number. FitsSigned w64 number) c.long_of-in-Long.ensures.same c.long_of-in-Long.ensures.fits))
+is_plain-returns-in-Long t c = plain_by _ (Value-F.Long _) true (ap out-Value c.in-Long.is ∙ value.outs-Long _) (always search)
 
 pub is_plain_array-loop-item-preserved : goal.is_plain_array-loop-item-preserved
 is_plain_array-loop-item-preserved t c =

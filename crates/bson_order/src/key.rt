@@ -171,8 +171,6 @@ fn put_array(items: &List<Value>, out: &mut Bytes) -> Result<(), NoMemory>
 
 /// The bytes by which a value is told apart, as `a_key_tells_values_apart` says: its BSON type byte and its BSON value (bsonspec.org),
 /// with each int as a long, and each length as an int64.
-///
-/// `NoMemory` comes also for a key of 2^63 bytes or more.
 pub fn id_key(alloc: Global, value: &Value) -> Result<Bytes, NoMemory>
     ensures key { IfOk result (λ bytes. bytes ≡ key value.now) }
     ensures short { IfOk result (λ bytes. length bytes < 2 ^ 63) }
@@ -180,9 +178,5 @@ pub fn id_key(alloc: Global, value: &Value) -> Result<Bytes, NoMemory>
     let mut out = Bytes::new(alloc);
     out.extend(&[code(value)])?;
     put_content(value, &mut out)?;
-    // The lengths in a longer key could not say what they count.
-    if out.len() > i64::MAX as usize {
-        return Err(NoMemory);
-    }
     Ok(out)
 }

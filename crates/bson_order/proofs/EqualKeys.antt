@@ -63,9 +63,11 @@ element_told levels are name label one other x y below plain like fine alike sma
     let valued = are one below other fine alike x y small few codes named.1 in
     (named.0, valued.0, valued.1)
 
+-- a name ends at its first 00 byte
 abbrev Named : Pair Value → Type 0
 Named pair = HasNoNul pair.name
 
+-- pairs with equal bytes are the same, one by one
 pairs_told : (levels : ℕ) → AreTold levels → (pairs others : List (Pair Value)) → pairs_depth pairs < levels
     → All Named pairs → All Named others → PlainPairs pairs → PlainPairs others
     → length (flat_map element pairs) < 2 ^ 63 → length (flat_map element others) < 2 ^ 63
@@ -85,8 +87,9 @@ pairs_told levels are (pair ∷ pairs) (other ∷ others) below names labels pla
     let named = equal_tied nat_list_cmp_total pair.name other.name first.0 in
     both_tied _ _ (both_tied _ _ (same_rank pair.value other.value first.1) (both_tied _ _ named first.1)) rest
 
--- items at one place have one name
-items_told : (levels : ℕ) → AreTold levels → (place : ℕ) (items others : List Value) → most (map depth items) < levels → PlainItems items → PlainItems others
+-- items with equal bytes too, whose names at one place are the same
+items_told : (levels : ℕ) → AreTold levels → (place : ℕ) (items others : List Value) → most (map depth items) < levels
+    → PlainItems items → PlainItems others
     → length (items_from place (map held items)) < 2 ^ 63 → length (items_from place (map held others)) < 2 ^ 63
     → items_from place (map held items) ≡ items_from place (map held others) → slice_cmp compared items others ≡ Equal
 items_told levels are place [] [] below plain like small few whole = refl
@@ -105,7 +108,7 @@ items_told levels are place (item ∷ items) (other ∷ others) below plain like
     let rest = items_told levels are (place + 1) items others (omega arith) plain.1 like.1 (omega arith) (omega arith) first.1 in
     both_tied _ _ first.0 rest
 
--- ---- one level
+-- ---- one level: contents with equal bytes at the front are equal, and so is what stands behind them
 
 texts_told : (one other x y : List ℕ) → length (string one) < 2 ^ 63 → length (string other) < 2 ^ 63
     → string one ++ x ≡ string other ++ y → (bytes_cmp one other ≡ Equal) × (x ≡ y)
@@ -168,6 +171,7 @@ record IsShort (layer : Value-F Value) : Type 0 where
   holds : HoldsPlain layer
   short : length (held_layer layer).1 < 2 ^ 63
 
+-- variant by variant
 layers_told : (levels : ℕ) → AreTold levels → (layer like : Value-F Value) (x y : List ℕ) → layer_depth layer < suc levels → IsShort layer → IsShort like
     → (held_layer layer).0 ≡ (held_layer like).0 → (held_layer layer).1 ++ x ≡ (held_layer like).1 ++ y
     → (layer_cmp rank_of compared layer like ≡ Equal) × (x ≡ y)

@@ -60,6 +60,7 @@ items_map [] (other ∷ others) = refl
 items_map (item ∷ items) [] = refl
 items_map (item ∷ items) (other ∷ others) = ap (λ (rest : Ordering). ordering_then (compared item other) rest) (items_map items others)
 
+-- sides compare as their values do
 layer_is : (one other : Value-F Value) → layer_cmp rank beside (map-Value Value Side side one) other ≡ layer_cmp rank_of compared one other
 layer_is (Value-F.Doc pairs) (Value-F.Doc others) = pairs_map pairs others
 layer_is (Value-F.Arr items) (Value-F.Arr others) = items_map items others
@@ -74,8 +75,8 @@ by_layers : (one other : Value) (layer like : Value-F Value) → out-Value one �
 by_layers one other layer like is alike =
     compared_is one other ∙ ap (λ (it : Value-F Value). layer_cmp rank_of compared it (out-Value other)) is ∙ ap (λ (it : Value-F Value). layer_cmp rank_of compared layer it) alike
 
-pub compared_documents : (pairs others : List (Pair Value)) → compared (value.Doc pairs) (value.Doc others) ≡ slice_cmp (pair_cmp rank_of compared) pairs others
-compared_documents pairs others = by_layers (value.Doc pairs) (value.Doc others) (Value-F.Doc pairs) (Value-F.Doc others) (value.outs-Doc pairs) (value.outs-Doc others)
+pub compared_pairs : (pairs others : List (Pair Value)) → compared (value.Doc pairs) (value.Doc others) ≡ slice_cmp (pair_cmp rank_of compared) pairs others
+compared_pairs pairs others = by_layers (value.Doc pairs) (value.Doc others) (Value-F.Doc pairs) (Value-F.Doc others) (value.outs-Doc pairs) (value.outs-Doc others)
 
-pub compared_arrays : (items others : List Value) → compared (value.Arr items) (value.Arr others) ≡ slice_cmp compared items others
-compared_arrays items others = by_layers (value.Arr items) (value.Arr others) (Value-F.Arr items) (Value-F.Arr others) (value.outs-Arr items) (value.outs-Arr others)
+pub compared_items : (items others : List Value) → compared (value.Arr items) (value.Arr others) ≡ slice_cmp compared items others
+compared_items items others = by_layers (value.Arr items) (value.Arr others) (Value-F.Arr items) (Value-F.Arr others) (value.outs-Arr items) (value.outs-Arr others)

@@ -43,6 +43,7 @@ neither a b = elim (exactly_one a b) [
   | inr (inr above) ↦ ((λ same. absurd (above.2 same)), (λ none. absurd (none.1 above.0)))
 ]
 
+-- values that are the same stand at one place
 pub alike_above : (a b c : Value) → Same a b → Below a c ↔ Below b c
 alike_above a b c same = let alike = compared_total.congr a b c same in ((λ below. sym alike ∙ below), (λ below. alike ∙ below))
 

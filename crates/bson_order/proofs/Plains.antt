@@ -53,6 +53,7 @@ holds_bare (Value-F.Int number) = tt
 holds_bare (Value-F.Stamp stamp) = tt
 holds_bare (Value-F.Long number) = tt
 
+-- a plain value holds plain values
 pub holds_plain : (it : Value) → IsPlain it → HoldsPlain (out-Value it)
 holds_plain it plain = let inside = every_held-Value IsPlainLayer it plain in subst HoldsPlain inside.1 (holds_bare inside.0)
 
@@ -91,6 +92,7 @@ layer_proved (Value-F.Int number) plain = (Value-F.Int number, refl)
 layer_proved (Value-F.Stamp stamp) plain = (Value-F.Stamp stamp, refl)
 layer_proved (Value-F.Long number) plain = (Value-F.Long number, refl)
 
+-- a layer that is plain and holds plain values makes a plain one
 made_plain : (it : Value) → IsPlainLayer (out-Value it) → HoldsPlain (out-Value it) → IsPlain it
 made_plain it here holds =
     let proved = layer_proved (out-Value it) holds in

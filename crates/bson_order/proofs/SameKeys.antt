@@ -21,6 +21,8 @@ use Rattle.bson_order.proofs.Layers.{compared_is}
 use Rattle.bson_order.proofs.Depths.{most, depth, pairs_depth, layer_depth, depth_is}
 use Rattle.bson_order.proofs.Helds.{held_layer, held_is}
 
+-- ---- what is tied is equal
+
 nat_tied : (one other : ℕ) → nat_cmp one other ≡ Equal → one ≡ other
 nat_tied one other tied = ranked one other Equal (sym tied)
 
@@ -55,10 +57,13 @@ regex_tied one other tied =
     let options = bytes_tied one.options other.options (second_tied (bytes_cmp one.pattern other.pattern) (bytes_cmp one.options other.options) tied) in
     ap (λ (text : List ℕ). cstring text ++ cstring one.options) patterns ∙ ap (λ (text : List ℕ). cstring other.pattern ++ cstring text) options
 
+-- ---- level by level
+
 -- values of fewer levels that are the same hold the same
 abbrev AreTied : ℕ → Type 0
 AreTied levels = (one : Value) → depth one < levels → (other : Value) → Same one other → held one ≡ held other
 
+-- documents and arrays whose pairs or items are tied have the same bytes
 pairs_tied : (levels : ℕ) → AreTied levels → (pairs others : List (Pair Value)) → pairs_depth pairs < levels
     → slice_cmp (pair_cmp rank_of compared) pairs others ≡ Equal → flat_map element pairs ≡ flat_map element others
 pairs_tied levels are [] [] below tied = refl

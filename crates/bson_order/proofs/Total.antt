@@ -65,6 +65,7 @@ module _ (order : Value → Value → Ordering) where
       (then_cmp (on pairs_in (slice_cmp (pair_cmp rank_of order)))
       (on items_in (slice_cmp order)))))))
 
+  -- what is compared last is tied
   last : (first : Ordering) → first ≡ ordering_then first Equal
   last Less = refl
   last Equal = refl
@@ -76,6 +77,7 @@ module _ (order : Value → Value → Ordering) where
   truths true false = refl
   truths true true = refl
 
+  -- the parts that a type lacks are tied
   chain_is : (one other : Value-F Value) → layer_cmp rank_of order one other ≡ chain one other
   chain_is (Value-F.Int number) (Value-F.Int other) = last (int_cmp number other)
   chain_is (Value-F.Int number) (Value-F.Long other) = last (int_cmp number other)

@@ -43,7 +43,7 @@ fn compare_regexes(a: &Regex, b: &Regex) -> Ordering
 }
 
 /// MongoDB's comparison of two values: by rank, and within a rank by what they hold (MongoDB Manual, "Comparison/Sort Order").
-#[tactic(auto, using(crate::proofs::Layers::compared_is, crate::proofs::Layers::compared_documents, crate::proofs::Layers::compared_arrays))]
+#[tactic(auto, using(crate::proofs::Layers::compared_is, crate::proofs::Layers::compared_pairs, crate::proofs::Layers::compared_items))]
 #[cycle(compare)]
 pub fn compare(a: &Value, b: &Value) -> Ordering
     ensures { result ≡ compared a.now b.now }

@@ -25,7 +25,7 @@ enum Sample {
 use Ordering::{Equal, Greater, Less};
 use Sample::{Arr, Bin, Bool, Date, Doc, Id, Int, Long, Null, Regex as Pattern, Stamp, Str};
 
-const ROWS: [(Sample, Sample, Ordering); 52] = [
+static ROWS: [(Sample, Sample, Ordering); 52] = [
     // By rank, whatever the values.
     (Null, Int(-1), Less),
     (Long(9), Str(""), Less),
@@ -110,7 +110,7 @@ const ROWS: [(Sample, Sample, Ordering); 52] = [
 ];
 
 /// Each with the type byte, lengths of eight bytes, and each int as a long.
-const KEYS: [(Sample, &[u8]); 13] = [
+static KEYS: [(Sample, &[u8]); 13] = [
     (Str("ab"), &[0x02, 3, 0, 0, 0, 0, 0, 0, 0, 97, 98, 0]),
     (
         Doc(&[("a", Int(1))]),
@@ -143,7 +143,7 @@ const KEYS: [(Sample, &[u8]); 13] = [
 ];
 
 /// Whether a 00 byte that ends a name or a text of a regex is the first one in it.
-const PLAINS: [(Sample, bool); 8] = [
+static PLAINS: [(Sample, bool); 8] = [
     (Str("a\0"), true),
     (Doc(&[("a", Int(1)), ("", Date(0))]), true),
     (Doc(&[("a", Int(1)), ("\0", Int(1))]), false),
@@ -193,7 +193,10 @@ fn value(alloc: Global, sample: &Sample) -> Result<Value, NoMemory> {
 
 fn add(alloc: Global, document: &mut Document, name: &str, value: Value) -> Result<(), NoMemory> {
     let name = Text::of(alloc, name)?;
-    document.push(name, value).map_err(|_| NoMemory)
+    match document.push(name, value) {
+        Ok(()) => Ok(()),
+        Err(_) => Err(NoMemory),
+    }
 }
 
 #[cycle(sample)]
@@ -206,12 +209,19 @@ fn document(alloc: Global, pairs: &[(&str, Sample)]) -> Result<Value, NoMemory> 
     Ok(Value::Doc(document))
 }
 
+fn append(items: &mut List<Value>, item: Value) -> Result<(), NoMemory> {
+    match items.push(item) {
+        Ok(()) => Ok(()),
+        Err(_) => Err(NoMemory),
+    }
+}
+
 #[cycle(sample)]
 fn array(alloc: Global, samples: &[Sample]) -> Result<Value, NoMemory> {
     let mut items = List::new(alloc);
     for sample in samples {
         let item = value(alloc, sample)?;
-        items.push(item).map_err(|_| NoMemory)?;
+        append(&mut items, item)?;
     }
     Ok(Value::Arr(items))
 }

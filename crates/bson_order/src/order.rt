@@ -67,6 +67,7 @@ pub fn compare(a: &Value, b: &Value) -> Ordering
 }
 
 /// Two pairs of documents: by the ranks of their values, by their names, and by their values.
+// The first comes in parts, since a pair has no measure by which the recursion could end.
 #[cycle(compare)]
 fn compare_pairs(name: &str, value: &Value, other: &Pair<Value>) -> Ordering
     ensures { result ≡ pair_cmp rank_of compared (record { name = name.now; value = value.now }) other.now }

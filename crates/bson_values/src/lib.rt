@@ -26,6 +26,4 @@ pub use text::Text;
 pub use value::{Binary, Document, Regex, Value};
 
 #[cfg(test)]
-mod refusals;
-#[cfg(test)]
 mod tests;

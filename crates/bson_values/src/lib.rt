@@ -1,4 +1,5 @@
-//! Values: documents as lists of named values, and the texts, bytes and lists that they hold.
+//! Values: documents as lists of named values, the texts, bytes and lists in them, their measures, and whether they may be stored.
+//! `bson_order` has their order, `bson_wire` their bytes.
 #![tactic(auto)]
 
 mod bytes;

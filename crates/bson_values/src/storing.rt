@@ -12,11 +12,14 @@ pub const MOST_BYTES: u64 = 16_777_216;
 /// The most levels of documents and arrays that it has, itself being one.
 pub const MOST_LEVELS: u32 = 32;
 
-/// Why a document is not stored. A number is the place of an element in preorder, from 0: fields and array elements
-/// at every depth count, the document itself does not.
+/// Why a document is not stored. The bytes are looked at first, then the levels, then each element in preorder, its name
+/// before its text. A number is the place of an element in preorder, from 0: fields and array elements at every depth
+/// count, the document itself does not.
 #[derive(Clone, Copy, Debug, PartialEq, Eq)]
 pub enum Unstorable {
+    /// It has more than `MOST_BYTES` bytes.
     TooLarge,
+    /// It has more than `MOST_LEVELS` levels.
     TooDeep,
     /// The name stood before in the same document.
     DuplicateKey(u64),
@@ -139,7 +142,7 @@ fn look_at_fields(doc: &Document, place: u64) -> Result<u64, Unstorable>
     Ok(next)
 }
 
-/// Whether a document may be stored, and if not, why.
+/// Whether a document may be stored, and if not, the first cause.
 #[tactic(auto, using(crate::proofs::Counts::elements_few), unfolding(crate::specs::Storable::storable))]
 pub fn storable(doc: &Document) -> Result<(), Unstorable>
     ensures { result ≡ storable doc.now }

@@ -36,18 +36,18 @@ module _ (IsDocument : ℕ → List ℕ → Doc → List Foreign → Type 0) (do
       record { inside = inside; small = omega arith; whole = whole ∙ sym (append_assoc (int32 (length spelling)) inside (0 ∷ [])); are = are }
 
   -- what is read behind the length: elements in a part, and the 00 byte that ends it
-  abbrev shut : ℕ → ℕ → List ℕ × List ℕ → Result (List Element × List ℕ) ℕ
-  shut here end part = all_at document array (end - (length part.1 + 1)) (take (length part.0 - 1) part.0) >>= λ found. ended_at here part.0 >>= λ inside. Ok (found, part.1)
+  abbrev inside_at : ℕ → ℕ → List ℕ × List ℕ → Result (List Element × List ℕ) ℕ
+  inside_at here end part = all_at document array (end - (length part.1 + 1)) (take (length part.0 - 1) part.0) >>= λ found. ended_at here part.0 >>= λ inside. Ok (found, part.1)
 
   -- a length, a part, the elements in it and its 00 byte, each of them read
   parts_take : AreTaken IsDocument document → AreTaken (IsArrayAt IsDocument) array → (here end place : ℕ) (bytes inside : List ℕ) (number : ℕ × List ℕ) (part : List ℕ × List ℕ) (elements : List Element)
       → IsBytes bytes → place + length bytes ≡ end → length_at here 5 bytes ≡ Ok number → part_at here (number.0 - 4) number.1 ≡ Ok part
       → all_at document array (end - (length part.1 + 1)) (take (length part.0 - 1) part.0) ≡ Ok elements → ended_at here part.0 ≡ Ok inside → Takes (Encloses IsDocument place) bytes (elements, part.1)
-  parts_take docs arrays here end place bytes inside number part elements fits at counted parted read shut =
+  parts_take docs arrays here end place bytes inside number part elements fits at counted parted read closed =
       let front = take (length part.0 - 1) part.0 in
       let stated = length_takes here 5 bytes number fits counted in
       let cut = part_takes here (number.0 - 4) number.1 part parted in
-      let ended = ended_takes here part.0 inside (omega (arith, stated.1, cut.1)) shut in
+      let ended = ended_takes here part.0 inside (omega (arith, stated.1, cut.1)) closed in
       let fits_part = IsBytes-front part.0 part.1 number.1 cut.0 (IsBytes-rest (int32 number.0) number.1 bytes stated.0 fits) in
       let fits_front : IsBytes front = subst IsBytes (sym ended.1) (IsBytes-front inside (0 ∷ []) part.0 ended.0 fits_part) in
       let so = cut_so number.0 bytes number.1 part.0 inside part.1 stated.0 cut.0 ended.0 cut.1 in
@@ -62,8 +62,8 @@ module _ (IsDocument : ℕ → List ℕ → Doc → List Foreign → Type 0) (do
   unfolding enclosed_at
   enclosed_takes docs arrays end place bytes found fits at is =
       let here = end - length bytes in
-      let number = bind_ok (length_at here 5 bytes) (λ n. part_at here (n.0 - 4) n.1 >>= λ part. shut here end part) found is in
-      let part = bind_ok (part_at here (number.0.0 - 4) number.0.1) (λ part. shut here end part) found number.2 in
+      let number = bind_ok (length_at here 5 bytes) (λ n. part_at here (n.0 - 4) n.1 >>= λ part. inside_at here end part) found is in
+      let part = bind_ok (part_at here (number.0.0 - 4) number.0.1) (λ part. inside_at here end part) found number.2 in
       let all = bind_ok (all_at document array (end - (length part.0.1 + 1)) (take (length part.0.0 - 1) part.0.0)) (λ found. ended_at here part.0.0 >>= λ inside. Ok (found, part.0.1)) found part.2 in
       let inside = bind_ok (ended_at here part.0.0) (λ inside. Ok (all.0, part.0.1)) found all.2 in
       at_found (Takes (Encloses IsDocument place) bytes) (all.0, part.0.1) found inside.2

@@ -130,7 +130,8 @@ module _ (IsDocument : ℕ → List ℕ → List (Pair Value) → List Foreign �
   -- of an element at `place`, whose value stands at `inner`: it is foreign, or its value is kept, with what is foreign in it
   abbrev pub Yields : ℕ → ℕ → ℕ → List ℕ → Option Value → List Foreign → Type 0
   Yields place inner code content None foreign = IsForeign code content × (foreign ≡ record { code = code; place = place } ∷ [])
-  Yields place inner code content (Some value) foreign = IsValue (λ bytes pairs. IsDocument inner bytes pairs foreign) code content (out-Value value) × MayHold code foreign
+  Yields place inner code content (Some value) foreign =
+      IsValue (λ bytes pairs. IsDocument inner bytes pairs foreign) code content (out-Value value) × MayHold code foreign
 
   -- type byte, name, value
   pub record IsElement (place : ℕ) (bytes : List ℕ) (it : Element) : Type 0 where
@@ -143,7 +144,9 @@ module _ (IsDocument : ℕ → List ℕ → List (Pair Value) → List Foreign �
   -- one element after another
   abbrev pub AreElements : ℕ → List ℕ → List Element → Type 0
   AreElements place bytes [] = bytes ≡ []
-  AreElements place bytes (it ∷ more) = (first : List ℕ) × (rest : List ℕ) × (bytes ≡ first ++ rest) × IsElement place first it × AreElements (place + length first) rest more
+  AreElements place bytes (it ∷ more) =
+      (first : List ℕ) × (rest : List ℕ) × (bytes ≡ first ++ rest)
+      × IsElement place first it × AreElements (place + length first) rest more
 
   -- an int32 that equals the length of all the bytes, elements, and a 00 byte
   pub record Encloses (place : ℕ) (bytes : List ℕ) (elements : List Element) : Type 0 where
@@ -156,8 +159,10 @@ module _ (IsDocument : ℕ → List ℕ → List (Pair Value) → List Foreign �
 unfoldable pub spells_within : ℕ → ℕ → List ℕ → List (Pair Value) → List Foreign → Type 0
 spells_within zero place bytes pairs foreign = ⊥
 spells_within (suc levels) place bytes pairs foreign =
-    (elements : List Element) × Encloses (spells_within levels) place bytes elements × (kept elements ≡ pairs) × (foreigns elements ≡ foreign)
+    (elements : List Element) × Encloses (spells_within levels) place bytes elements
+    × (kept elements ≡ pairs) × (foreigns elements ≡ foreign)
 
--- the bytes spell the document, in at most 128 levels, and the foreign elements, which are not in it; places are counted from the first byte
+-- the bytes spell the document, in at most 128 levels, and the foreign elements, which are not in it;
+-- places are counted from the first byte
 abbrev pub spells : List ℕ → List (Pair Value) → List Foreign → Type 0
 spells bytes doc foreign = spells_within 128 0 bytes doc foreign

@@ -60,11 +60,17 @@ nul_at place (Some len) = Ok len
 
 -- UTF-8 before the first 00 byte, and the bytes after that
 unfoldable pub name_at : ℕ → List ℕ → Result (List ℕ × List ℕ) ℕ
-name_at place bytes = nul_at place (position (λ byte. byte == 0) bytes) >>= λ len. text_of place (take len bytes) >>= λ name. Ok (name, drop (len + 1) bytes)
+name_at place bytes =
+    nul_at place (position (λ byte. byte == 0) bytes) >>= λ len.
+    text_of place (take len bytes) >>= λ name. Ok (name, drop (len + 1) bytes)
 
 -- a length, as many bytes that end with 00, and UTF-8 in them
 unfoldable pub text_at : ℕ → List ℕ → Result (List ℕ × List ℕ) ℕ
-text_at place bytes = length_at place 1 bytes >>= λ n. part_at place n.0 n.1 >>= λ part. ended_at place part.0 >>= λ content. text_of place content >>= λ text. Ok (text, part.1)
+text_at place bytes =
+    length_at place 1 bytes >>= λ n.
+    part_at place n.0 n.1 >>= λ part.
+    ended_at place part.0 >>= λ content.
+    text_of place content >>= λ text. Ok (text, part.1)
 
 -- the same as a value
 unfoldable pub string_at : ℕ → List ℕ → Result (Value × List ℕ) ℕ
@@ -72,7 +78,10 @@ string_at place bytes = text_at place bytes >>= λ text. Ok (value.Str text.0, t
 
 -- a length, a byte, and as many bytes
 unfoldable pub binary_at : ℕ → List ℕ → Result (Value × List ℕ) ℕ
-binary_at place bytes = length_at place 0 bytes >>= λ n. part_at place (n.0 + 1) n.1 >>= λ part. Ok (value.Bin (record { subtype = slice_index part.0 0; bytes = drop 1 part.0 }), part.1)
+binary_at place bytes =
+    length_at place 0 bytes >>= λ n.
+    part_at place (n.0 + 1) n.1 >>= λ part.
+    Ok (value.Bin (record { subtype = slice_index part.0 0; bytes = drop 1 part.0 }), part.1)
 
 -- twelve bytes
 unfoldable pub id_at : ℕ → List ℕ → Result (Value × List ℕ) ℕ
@@ -80,12 +89,18 @@ id_at place bytes = part_at place 12 bytes >>= λ part. Ok (value.Id part.0, par
 
 -- one byte, 00 or 01
 unfoldable pub bool_at : ℕ → List ℕ → Result (Value × List ℕ) ℕ
-bool_at place bytes = part_at place 1 bytes >>= λ part.
-    if slice_index part.0 0 == 0 then Ok (value.Bool false, part.1) else if slice_index part.0 0 == 1 then Ok (value.Bool true, part.1) else Err place
+bool_at place bytes =
+    part_at place 1 bytes >>= λ part.
+    if slice_index part.0 0 == 0 then Ok (value.Bool false, part.1)
+    else if slice_index part.0 0 == 1 then Ok (value.Bool true, part.1)
+    else Err place
 
 -- two names
 unfoldable pub regex_at : ℕ → List ℕ → Result (Value × List ℕ) ℕ
-regex_at place bytes = name_at place bytes >>= λ pattern. name_at place pattern.1 >>= λ options. Ok (value.Regex (record { pattern = pattern.0; options = options.0 }), options.1)
+regex_at place bytes =
+    name_at place bytes >>= λ pattern.
+    name_at place pattern.1 >>= λ options.
+    Ok (value.Regex (record { pattern = pattern.0; options = options.0 }), options.1)
 
 -- an int32
 abbrev pub int_at : ℕ → List ℕ → Result (Value × List ℕ) ℕ
@@ -159,14 +174,17 @@ module _ (document : ℕ → List ℕ → Result (List (Pair Value) × List Fore
 
   -- the name and the value behind a type byte, where a fault is at the type byte
   unfoldable pub element_at : ℕ → ℕ → List ℕ → Result (Element × List ℕ) ℕ
-  element_at end code bytes = name_at (end - (length bytes + 1)) bytes >>= λ name.
+  element_at end code bytes =
+      name_at (end - (length bytes + 1)) bytes >>= λ name.
       value_at end (end - (length bytes + 1)) code name.1 >>= λ v. Ok (record { name = name.0; value = v.0; foreign = v.1 }, v.2)
 
   -- the elements that fill the bytes; `most` bounds how many
   unfoldable pub elements_at : ℕ → ℕ → List ℕ → Result (List Element) ℕ
   elements_at zero end bytes = Err end
   elements_at (suc most) end [] = Ok []
-  elements_at (suc most) end (code ∷ bytes) = element_at end code bytes >>= λ first. elements_at most end first.1 >>= λ others. Ok (first.0 ∷ others)
+  elements_at (suc most) end (code ∷ bytes) =
+      element_at end code bytes >>= λ first.
+      elements_at most end first.1 >>= λ others. Ok (first.0 ∷ others)
 
   -- all of them
   abbrev pub all_at : ℕ → List ℕ → Result (List Element) ℕ
@@ -174,7 +192,9 @@ module _ (document : ℕ → List ℕ → Result (List (Pair Value) × List Fore
 
   -- a length, elements within it, and a 00 byte; a fault of the length or of that byte is at the length
   unfoldable pub enclosed_at : ℕ → List ℕ → Result (List Element × List ℕ) ℕ
-  enclosed_at end bytes = length_at (end - length bytes) 5 bytes >>= λ n. part_at (end - length bytes) (n.0 - 4) n.1 >>= λ part.
+  enclosed_at end bytes =
+      length_at (end - length bytes) 5 bytes >>= λ n.
+      part_at (end - length bytes) (n.0 - 4) n.1 >>= λ part.
       all_at (end - (length part.1 + 1)) (take (length part.0 - 1) part.0) >>= λ found.
       ended_at (end - length bytes) part.0 >>= λ inside. Ok (found, part.1)
 
@@ -182,11 +202,15 @@ module _ (document : ℕ → List ℕ → Result (List (Pair Value) × List Fore
 unfoldable mutual
   pub document_at : ℕ → ℕ → List ℕ → Result (List (Pair Value) × List Foreign × List ℕ) ℕ
   document_at zero end bytes = Err (end - length bytes)
-  document_at (suc levels) end bytes = enclosed_at (document_at levels) (array_at levels) end bytes >>= λ found. Ok (kept found.0, foreigns found.0, found.1)
+  document_at (suc levels) end bytes =
+      enclosed_at (document_at levels) (array_at levels) end bytes >>= λ found.
+      Ok (kept found.0, foreigns found.0, found.1)
 
   pub array_at : ℕ → ℕ → List ℕ → Result (List Value × List Foreign × List ℕ) ℕ
   array_at zero end bytes = Err (end - length bytes)
-  array_at (suc levels) end bytes = enclosed_at (document_at levels) (array_at levels) end bytes >>= λ found. Ok (values (kept found.0), foreigns found.0, found.1)
+  array_at (suc levels) end bytes =
+      enclosed_at (document_at levels) (array_at levels) end bytes >>= λ found.
+      Ok (values (kept found.0), foreigns found.0, found.1)
 
 -- the first of some foreign elements
 abbrev pub first : List Foreign → Option Foreign

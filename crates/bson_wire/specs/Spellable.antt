@@ -12,7 +12,8 @@ use Rattle.bson_wire.specs.Grammar.{IsName}
 abbrev pub HasSpelling : Value-F Value → ℕ → Type 0
 HasSpelling (Value-F.Str text) levels = IsUtf8 text
 HasSpelling (Value-F.Doc pairs) zero = ⊥
-HasSpelling (Value-F.Doc pairs) (suc levels) = All (λ (pair : Pair Value). IsName pair.name × HasSpelling (out-Value pair.value) levels) pairs
+HasSpelling (Value-F.Doc pairs) (suc levels) =
+    All (λ (pair : Pair Value). IsName pair.name × HasSpelling (out-Value pair.value) levels) pairs
 HasSpelling (Value-F.Arr items) zero = ⊥
 HasSpelling (Value-F.Arr items) (suc levels) = All (λ (item : Value). HasSpelling (out-Value item) levels) items
 HasSpelling (Value-F.Bin it) levels = Unit {0}

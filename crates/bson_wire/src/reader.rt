@@ -235,7 +235,7 @@ fn array(
     }
 }
 
-/// Reads the document at the front. Bytes may follow it.
+/// Reads the document of BSON 1.1 at the front, nested at most 128 deep. Bytes may follow it.
 pub fn read(alloc: Global, bytes: &[u8]) -> Result<Front, ReadRefused>
     ensures found { IfOk result (λ front. (front.used ≤ length bytes.now)
         × (foreign : Seq Other) × spells (take front.used bytes.now) front.doc foreign × (front.foreign ≡ first foreign)) }

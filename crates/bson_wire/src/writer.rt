@@ -195,7 +195,7 @@ fn put_array(items: &List<Value>, out: &mut Bytes) -> Result<(), NoMemory>
     close(start, out)
 }
 
-/// Appends the spelling of a document. Want of memory appends nothing.
+/// Appends the bytes of a document, as BSON 1.1 spells it. Want of memory appends nothing.
 pub fn write(doc: &Document, out: &mut Bytes) -> Result<(), NoMemory>
     requires small { length (spell doc.now) < 2 ^ 31 }
     ensures ok { OnOk result (out.new ≡ out.old ++ spell doc.now) }

@@ -18,7 +18,7 @@ pub fn what_was_written_is_read_again()
     ensures { (doc : List (Pair Value)) → IsSpellable doc → spells (spell doc) doc [] }
 {}
 
-/// What `read` gives is such a document, unless its spelling takes 2^31 bytes or more.
+/// What `read` gives has a spelling, unless that takes 2^31 bytes or more: it names the items of arrays anew.
 pub fn what_was_read_can_be_written()
     ensures { (bytes : List ℕ) (doc : List (Pair Value)) (foreign : List Foreign) → spells bytes doc foreign
         → length (spell doc) < 2 ^ 31 → IsSpellable doc }

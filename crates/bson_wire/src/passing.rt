@@ -1,7 +1,7 @@
 //! Foreign elements, which are passed over and told.
 
 use crate::{Foreign, ReadRefused, read, write};
-use bson_values::Bytes;
+use bson_values::{Bytes, NoMemory};
 use std::alloc::Global;
 use std::test::Fail;
 
@@ -39,7 +39,7 @@ fn wrong(alloc: Global, rows: &[Row]) -> Result<Option<&'static str>, ReadRefuse
 
 /// An element `x` of each foreign type, alone: 1.5, undefined, a pointer into "q", the code "j", the symbol "", the code "" with `{}`,
 /// the same with bytes that are no scope, a decimal, maxKey, minKey.
-const ALONE: [Row; 10] = [
+static ALONE: [Row; 10] = [
     (
         "a double",
         0x01,
@@ -108,58 +108,121 @@ fn a_foreign_element_alone_leaves_an_empty_document(rt: HostRuntime) -> Result<(
     Ok(())
 }
 
-const AROUND: [Row; 4] = [
+/// The same values, but for the scope that is none.
+static VALUES: [(u8, &[u8]); 9] = [
+    (0x01, &[0, 0, 0, 0, 0, 0, 0xf8, 0x3f]),
+    (0x06, &[]),
     (
-        "behind it",
-        0x0d,
-        4,
-        &[
-            18, 0, 0, 0, 0x0d, 120, 0, 2, 0, 0, 0, 106, 0, 0x08, 98, 0, 1, 0,
-        ],
-        &[9, 0, 0, 0, 0x08, 98, 0, 1, 0],
+        0x0c,
+        &[2, 0, 0, 0, 113, 0, 1, 2, 3, 4, 5, 6, 7, 8, 9, 10, 11, 12],
     ),
+    (0x0d, &[2, 0, 0, 0, 106, 0]),
+    (0x0e, &[1, 0, 0, 0, 0]),
+    (0x0f, &[14, 0, 0, 0, 1, 0, 0, 0, 0, 5, 0, 0, 0, 0]),
     (
-        "before it",
-        0x0d,
-        8,
-        &[
-            18, 0, 0, 0, 0x08, 98, 0, 1, 0x0d, 120, 0, 2, 0, 0, 0, 106, 0, 0,
-        ],
-        &[9, 0, 0, 0, 0x08, 98, 0, 1, 0],
+        0x13,
+        &[1, 2, 3, 4, 5, 6, 7, 8, 9, 10, 11, 12, 13, 14, 15, 0x30],
     ),
+    (0x7f, &[]),
+    (0xff, &[]),
+];
+
+/// A length, what is inside, and a 00 byte.
+fn enclosed(alloc: Global, inside: &[u8]) -> Result<Bytes, NoMemory> {
+    let Ok(len) = u32::try_from(inside.len().saturating_add(5)) else {
+        return Err(NoMemory);
+    };
+    let mut bytes = Bytes::of(alloc, &len.to_le_bytes())?;
+    bytes.extend(inside)?;
+    bytes.extend(&[0])?;
+    Ok(bytes)
+}
+
+/// A document with an element `x` between others.
+fn around(
+    alloc: Global,
+    before: &[u8],
+    code: u8,
+    value: &[u8],
+    after: &[u8],
+) -> Result<Bytes, NoMemory> {
+    let mut inside = Bytes::of(alloc, before)?;
+    inside.extend(&[code, 120, 0])?;
+    inside.extend(value)?;
+    inside.extend(after)?;
+    enclosed(alloc, inside.as_slice())
+}
+
+/// A document with a container `c` of that type byte, and `a: null` behind it.
+fn outside(alloc: Global, code: u8, container: &[u8]) -> Result<Bytes, NoMemory> {
+    let mut inside = Bytes::of(alloc, &[code, 99, 0])?;
+    inside.extend(container)?;
+    inside.extend(&[0x0a, 97, 0])?;
+    enclosed(alloc, inside.as_slice())
+}
+
+#[test]
+fn the_elements_around_each_are_kept(rt: HostRuntime) -> Result<(), Fail> {
+    let kept = [9, 0, 0, 0, 0x08, 98, 0, 1, 0];
+    for (code, value) in &VALUES {
+        let first = around(rt.alloc(), &[], *code, value, &[0x08, 98, 0, 1])?;
+        let foreign = Foreign {
+            code: *code,
+            place: 4,
+        };
+        assert!(rt;
+            leaves(rt.alloc(), first.as_slice(), foreign, &kept)?,
+            "{code} first"
+        );
+        let last = around(rt.alloc(), &[0x08, 98, 0, 1], *code, value, &[])?;
+        let foreign = Foreign {
+            code: *code,
+            place: 8,
+        };
+        assert!(rt;
+            leaves(rt.alloc(), last.as_slice(), foreign, &kept)?,
+            "{code} last"
+        );
+    }
+    Ok(())
+}
+
+/// A container's type byte, and the bytes of a document that has it with null and true in it.
+static CONTAINERS: [(u8, [u8; 23]); 2] = [
     (
-        "the items, in order",
-        0x0d,
-        14,
-        &[
-            32, 0, 0, 0, 0x04, 99, 0, 21, 0, 0, 0, 0x0a, 48, 0, 0x0d, 49, 0, 2, 0, 0, 0, 106, 0,
-            0x08, 50, 0, 1, 0, 0x0a, 97, 0, 0,
-        ],
-        &[
-            23, 0, 0, 0, 0x04, 99, 0, 12, 0, 0, 0, 0x0a, 48, 0, 0x08, 49, 0, 1, 0, 0x0a, 97, 0, 0,
-        ],
-    ),
-    (
-        "the elements of an inner document",
-        0x0d,
-        14,
-        &[
-            32, 0, 0, 0, 0x03, 99, 0, 21, 0, 0, 0, 0x0a, 48, 0, 0x0d, 49, 0, 2, 0, 0, 0, 106, 0,
-            0x08, 50, 0, 1, 0, 0x0a, 97, 0, 0,
-        ],
-        &[
+        0x03,
+        [
             23, 0, 0, 0, 0x03, 99, 0, 12, 0, 0, 0, 0x0a, 48, 0, 0x08, 50, 0, 1, 0, 0x0a, 97, 0, 0,
+        ],
+    ),
+    (
+        0x04,
+        [
+            23, 0, 0, 0, 0x04, 99, 0, 12, 0, 0, 0, 0x0a, 48, 0, 0x08, 49, 0, 1, 0, 0x0a, 97, 0, 0,
         ],
     ),
 ];
 
 #[test]
-fn what_stands_around_a_foreign_element_is_kept(rt: HostRuntime) -> Result<(), Fail> {
-    assert_eq!(rt; wrong(rt.alloc(), &AROUND)?, None);
+fn what_stands_around_each_in_a_container_is_kept(rt: HostRuntime) -> Result<(), Fail> {
+    for (code, value) in &VALUES {
+        let inner = around(rt.alloc(), &[0x0a, 48, 0], *code, value, &[0x08, 50, 0, 1])?;
+        let foreign = Foreign {
+            code: *code,
+            place: 14,
+        };
+        for (container, kept) in &CONTAINERS {
+            let bytes = outside(rt.alloc(), *container, inner.as_slice())?;
+            assert!(rt;
+                leaves(rt.alloc(), bytes.as_slice(), foreign, kept)?,
+                "{code} in {container}"
+            );
+        }
+    }
     Ok(())
 }
 
-const MANY: [Row; 3] = [
+static MANY: [Row; 3] = [
     (
         "two in a document",
         0x7f,

@@ -18,7 +18,7 @@ fn wrong(alloc: Global, rows: &[Row]) -> Option<&'static str> {
     None
 }
 
-const LENGTHS: [Row; 6] = [
+static LENGTHS: [Row; 6] = [
     ("no length", 0, &[5, 0, 0]),
     ("a length below 5", 0, &[4, 0, 0, 0, 0]),
     ("a negative length", 0, &[0xff, 0xff, 0xff, 0xff, 0]),
@@ -37,7 +37,7 @@ fn faults_of_a_document_are_at_its_length(rt: HostRuntime) -> Result<(), Fail> {
     Ok(())
 }
 
-const ELEMENTS: [Row; 7] = [
+static ELEMENTS: [Row; 7] = [
     ("a 00 before the end", 4, &[6, 0, 0, 0, 0, 0]),
     ("a 00 behind an element", 7, &[9, 0, 0, 0, 10, 97, 0, 0, 0]),
     ("a name without its 00", 4, &[8, 0, 0, 0, 16, 97, 98, 0]),
@@ -53,7 +53,7 @@ fn faults_of_an_element_are_at_its_type_byte(rt: HostRuntime) -> Result<(), Fail
     Ok(())
 }
 
-const TEXTS: [Row; 4] = [
+static TEXTS: [Row; 4] = [
     (
         "stated length 0",
         4,
@@ -78,7 +78,7 @@ fn faults_of_a_text_or_a_binary_are_at_its_type_byte(rt: HostRuntime) -> Result<
     Ok(())
 }
 
-const INNER: [Row; 6] = [
+static INNER: [Row; 6] = [
     (
         "one byte short",
         11,
@@ -115,7 +115,7 @@ fn faults_of_an_inner_document_are_at_the_inner_place(rt: HostRuntime) -> Result
     Ok(())
 }
 
-const FOREIGN: [Row; 5] = [
+static FOREIGN: [Row; 5] = [
     (
         "a double of 7 bytes",
         4,

@@ -1,11 +1,12 @@
 -- The body of a command: its first field has the command's name, and its other fields say what the command works on.
-use Rattle.std.specs.Prelude.{ℕ, Bool, true, false, ◌||◌, if◌then◌else◌, List, [], ◌∷◌, Option, None, Some, codes}
-use Rattle.std.specs.List.{list_any, list_all}
+use Rattle.std.specs.Prelude.{ℕ, Bool, true, false, if◌then◌else◌, List, [], ◌∷◌, Option, None, Some, codes}
+use Rattle.std.specs.List.{list_all}
 use Rattle.std.specs.Str.{bytes_eq}
 use Rattle.bson_values.specs.declared.pairs.Pair.{Pair}
 use Rattle.bson_values.specs.declared.value.Value.{Value}
 use Rattle.bson_values.specs.declared.value.Value.TheViews.{out-Value}
 use Rattle.bson_values.specs.declared.value.Value.TheOpen.{Value-F}
+use Rattle.bson_values.specs.Names.{first_of}
 use Rattle.command_words.specs.declared.word.Word.{Word}
 use Rattle.command_words.specs.declared.word.Word.TheVariants.{Ping, Insert, Find}
 
@@ -17,15 +18,6 @@ word_of name =
     else if bytes_eq name (codes "find") then Some Find
     else None
 
--- one of the fields has that name
-abbrev pub has_name : List ℕ → List (Pair Value) → Bool
-has_name name fields = list_any (λ (field : Pair Value). bytes_eq field.name name) fields
-
--- two of the fields have one name
-abbrev pub has_twice : List (Pair Value) → Bool
-has_twice [] = false
-has_twice (field ∷ fields) = has_name field.name fields || has_twice fields
-
 -- the command that the first field names
 abbrev pub word_in : List (Pair Value) → Option Word
 word_in [] = None
@@ -36,17 +28,9 @@ abbrev pub own_in : List (Pair Value) → Option Value
 own_in [] = None
 own_in (field ∷ fields) = Some field.value
 
--- the names of fields that an insert may have
-abbrev pub is_insert_name : List ℕ → Bool
-is_insert_name name = bytes_eq name (codes "insert") || bytes_eq name (codes "$db") || bytes_eq name (codes "documents")
-
--- and those that a find may have
-abbrev pub is_find_name : List ℕ → Bool
-is_find_name name = bytes_eq name (codes "find") || bytes_eq name (codes "$db") || bytes_eq name (codes "filter")
-
--- each field has such a name
-abbrev pub has_only : (List ℕ → Bool) → List (Pair Value) → Bool
-has_only test body = list_all (λ (field : Pair Value). test field.name) body
+-- the value of the field of that name
+abbrev pub field_of : List (Pair Value) → List ℕ → Option Value
+field_of body name = first_of name body
 
 -- a value is there, and passes the test
 abbrev pub is_given : (Value-F Value → Bool) → Option Value → Bool

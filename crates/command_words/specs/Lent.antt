@@ -1,4 +1,4 @@
--- Requests, whose words are lent by a body.
+-- Requests, whose words are lent by a message.
 use Rattle.std.specs.Prelude.{ℕ, ◌≡◌, Bool, List, None, Some, Result, Ok, Err}
 use Rattle.doc_model.specs.declared.op.Op.TheVariants as op
 use Rattle.command_words.specs.declared.command.Command.{Command}

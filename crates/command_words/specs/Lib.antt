@@ -1,5 +1,6 @@
 pub mod Namespace
 pub mod Body
+pub mod Names
 pub mod Items
 pub mod Refusal
 pub mod Meaning

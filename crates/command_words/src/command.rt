@@ -20,7 +20,8 @@ pub enum Command {
 }
 
 impl Command {
-    /// The command that the message means, with copies of what it names.
+    /// The command that the message means, with copies of what it names. No memory is taken for a message that is refused.
+    /// To look for a name that is given twice takes time that grows with the square of the number of names, of fields and of sequences.
     pub fn read(alloc: Global, message: &Message) -> Result<Command, CommandRefused>
         ensures accepted { OnOk result (refusal message.now ≡ None) }
         ensures means { IfOk result (λ command. command ≡ command_of message.now) }
@@ -31,7 +32,7 @@ impl Command {
         if message.foreign.is_some() {
             return Err(CommandRefused::Refused(UNSUPPORTED_TYPE));
         }
-        match Request::of(&message.body) {
+        match Request::of(message) {
             Ok(asked) => Ok(copied(alloc, asked)?),
             Err(kind) => Err(CommandRefused::Refused(kind)),
         }

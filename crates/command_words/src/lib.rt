@@ -4,6 +4,7 @@
 mod body;
 mod command;
 mod items;
+mod names;
 mod namespace;
 mod refused;
 mod request;

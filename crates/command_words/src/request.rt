@@ -1,11 +1,12 @@
 ghost use Rattle.std.specs.Prelude.{◌≡◌, true};
 ghost use Rattle.command_words.specs.Lent.{Follows};
 ghost use Rattle.command_words.specs.Namespace.{is_database_name};
-ghost use Rattle.command_words.specs.Meaning.{insert_in, find_in, command_in};
+ghost use Rattle.command_words.specs.Meaning.{insert_in, find_in, command_of};
 ghost use Rattle.command_words.specs.Refusal.{insert_rows, find_rows, rows_in};
 
-use crate::body::{are_of_find, are_of_insert, has_twice, own_in, word_in};
-use crate::items::one_item;
+use crate::body::{own_in, word_in};
+use crate::items::{has_documents, inserted, sequence_of};
+use crate::names::{has_twice, takes_all};
 use crate::namespace::{is_collection_name, is_database_name};
 use crate::values::{are_documents, is_document, is_empty};
 use crate::word::Word;
@@ -14,8 +15,9 @@ use case_tables::{
     FIELD_GIVEN_TWICE, FIELD_MISSING, INVALID_NAMESPACE, Kind, NO_SUCH_COMMAND, NOT_SUPPORTED,
     WRONG_TYPE,
 };
+use op_msg::Message;
 
-/// What a body asks for, by what the body lends.
+/// What a message asks for, by what it lends.
 pub(crate) enum Request<'a> {
     Ping,
     Insert {
@@ -30,17 +32,17 @@ pub(crate) enum Request<'a> {
 }
 
 impl<'a> Request<'a> {
-    /// What the message with that body asks for, or why it is refused.
-    pub(crate) fn of(body: &'a Document) -> Result<Request<'a>, Kind>
-        ensures { Follows (rows_in body.now) (command_in body.now) result }
+    /// What the message asks for, or why it is refused. Foreign elements are not looked at.
+    pub(crate) fn of(message: &'a Message) -> Result<Request<'a>, Kind>
+        ensures { Follows (rows_in message.now) (command_of message.now) result }
     {
-        let Some(word) = word_in(body.as_slice()) else {
+        let Some(word) = word_in(message.body.as_slice()) else {
             return Err(NO_SUCH_COMMAND);
         };
-        if has_twice(body.as_slice()) {
+        if has_twice(message) {
             return Err(FIELD_GIVEN_TWICE);
         }
-        let Some(db) = body.get("$db") else {
+        let Some(db) = message.body.get("$db") else {
             return Err(FIELD_MISSING);
         };
         let Value::Str(db) = db else {
@@ -52,54 +54,57 @@ impl<'a> Request<'a> {
         }
         match word {
             Word::Ping => Ok(Request::Ping),
-            Word::Insert => insert(db, body),
-            Word::Find => find(db, body),
+            Word::Insert => insert(db, message),
+            Word::Find => find(db, message),
         }
     }
 }
 
-fn insert<'a>(db: &'a str, body: &'a Document) -> Result<Request<'a>, Kind>
+fn insert<'a>(db: &'a str, message: &'a Message) -> Result<Request<'a>, Kind>
     requires { is_database_name db.now ≡ true }
-    ensures { Follows (insert_rows db.now body.now) (insert_in db.now body.now) result }
+    ensures { Follows (insert_rows db.now message.now) (insert_in db.now message.now) result }
 {
-    let Some(Value::Str(coll)) = own_in(body.as_slice()) else {
+    let Some(Value::Str(coll)) = own_in(message.body.as_slice()) else {
         return Err(WRONG_TYPE);
     };
-    let Some(documents) = body.get("documents") else {
+    if !message.body.get("documents").is_none_or(are_documents) {
+        return Err(WRONG_TYPE);
+    }
+    if !has_documents(message) {
         return Err(FIELD_MISSING);
-    };
-    if !are_documents(documents) {
-        return Err(WRONG_TYPE);
     }
     let coll = coll.as_str();
     if !is_collection_name(db, coll) {
         return Err(INVALID_NAMESPACE);
     }
-    if !are_of_insert(body.as_slice()) {
+    if !takes_all(Word::Insert, message) {
         return Err(NOT_SUPPORTED);
     }
-    let Some(doc) = one_item(documents) else {
+    let Some(doc) = inserted(message) else {
         return Err(NOT_SUPPORTED);
     };
     Ok(Request::Insert { db, coll, doc })
 }
 
-fn find<'a>(db: &'a str, body: &'a Document) -> Result<Request<'a>, Kind>
+fn find<'a>(db: &'a str, message: &'a Message) -> Result<Request<'a>, Kind>
     requires { is_database_name db.now ≡ true }
-    ensures { Follows (find_rows db.now body.now) (find_in db.now body.now) result }
+    ensures { Follows (find_rows db.now message.now) (find_in db.now message.now) result }
 {
-    let Some(Value::Str(coll)) = own_in(body.as_slice()) else {
+    let Some(Value::Str(coll)) = own_in(message.body.as_slice()) else {
         return Err(WRONG_TYPE);
     };
-    let filter = body.get("filter");
+    let filter = message.body.get("filter");
     if !filter.is_none_or(is_document) {
+        return Err(WRONG_TYPE);
+    }
+    if sequence_of(message, "filter").is_some() {
         return Err(WRONG_TYPE);
     }
     let coll = coll.as_str();
     if !is_collection_name(db, coll) {
         return Err(INVALID_NAMESPACE);
     }
-    if !are_of_find(body.as_slice()) {
+    if !takes_all(Word::Find, message) {
         return Err(NOT_SUPPORTED);
     }
     if !filter.is_none_or(is_empty) {

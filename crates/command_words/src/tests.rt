@@ -2,7 +2,7 @@ use crate::{Command, CommandRefused};
 use bson_values::{Document, List, NoMemory, Text, Value};
 use bson_wire::Foreign;
 use doc_model::Op;
-use op_msg::Message;
+use op_msg::{Message, Sequence};
 use std::alloc::Global;
 use std::test::Fail;
 
@@ -32,6 +32,9 @@ enum Given {
 
 type Fields = &'static [(&'static str, Given)];
 
+/// Sequences by their names, with the documents in them.
+type Sequences = &'static [(&'static str, &'static [Pairs])];
+
 const NONE: Pairs = &[];
 
 const ID: Pairs = &[("_id", Inner::Number(1))];
@@ -43,6 +46,13 @@ const COLL: Given = Given::Text("c");
 const DB: Given = Given::Text("t");
 
 const INSERT: Fields = &[("insert", COLL), ("documents", DOCUMENT), ("$db", DB)];
+
+/// An insert whose document comes in a sequence.
+const INSERT_BESIDE: Fields = &[("insert", COLL), ("$db", DB)];
+
+const NOTHING: Sequences = &[];
+
+const BESIDE: Sequences = &[("documents", &[ID])];
 
 const INSERT_LONG: Fields = &[
     ("insert", COLL),
@@ -62,6 +72,8 @@ const FIND_ALL: Fields = &[
 ];
 
 const PING: Fields = &[("ping", Given::Number(1)), ("$db", Given::Text("admin"))];
+
+const UNKNOWN_BESIDE: Sequences = &[("x", &[ID])];
 
 const UNKNOWN: Fields = &[("frobnicate", COLL), ("$db", DB)];
 
@@ -151,6 +163,45 @@ const REFUSED: [(Fields, u32); 20] = [
     ),
 ];
 
+/// Bodies and sequences with the kinds by which they are refused.
+const REFUSED_BESIDE: [(Fields, Sequences, u32); 14] = [
+    (INSERT, BESIDE, 13),
+    (
+        INSERT_BESIDE,
+        &[("documents", &[ID]), ("documents", &[ID])],
+        13,
+    ),
+    (FIND, &[("x", &[]), ("y", &[]), ("x", &[])], 13),
+    (PING, &[("ping", &[])], 13),
+    (INSERT_BESIDE, &[("$db", &[ID]), ("documents", &[ID])], 13),
+    (
+        &[("insert", COLL)],
+        &[("$db", &[ID]), ("documents", &[ID])],
+        14,
+    ),
+    (INSERT_BESIDE, &[("x", &[ID])], 14),
+    (INSERT_BESIDE, &[("documents", &[ID]), ("x", &[])], 29),
+    (
+        INSERT_BESIDE,
+        &[("documents", &[ID, &[("_id", Inner::Number(2))]])],
+        29,
+    ),
+    (INSERT_BESIDE, &[("documents", &[])], 29),
+    (
+        INSERT_BESIDE,
+        &[("documents", &[&[("_id", Inner::One)]])],
+        29,
+    ),
+    (FIND, &[("filter", &[])], 17),
+    // The types come before the collection's name.
+    (
+        &[("find", Given::Text("")), ("$db", DB)],
+        &[("filter", &[ID])],
+        17,
+    ),
+    (FIND, &[("x", &[ID])], 29),
+];
+
 fn one(alloc: Global) -> Result<Value, NoMemory> {
     let mut items = List::new(alloc);
     items.push(Value::Int(1)).map_err(|_| NoMemory)?;
@@ -202,16 +253,42 @@ fn value(alloc: Global, given: Given) -> Result<Value, NoMemory> {
     }
 }
 
-fn message(alloc: Global, fields: Fields) -> Result<Message, NoMemory> {
+fn body(alloc: Global, fields: Fields) -> Result<Document, NoMemory> {
     let mut body = Document::new(alloc);
     for (name, given) in fields {
         let name = Text::of(alloc, name)?;
         let value = value(alloc, *given)?;
         body.push(name, value).map_err(|_| NoMemory)?;
     }
+    Ok(body)
+}
+
+fn sequence(alloc: Global, name: &str, all: &[Pairs]) -> Result<Sequence, NoMemory> {
+    let name = Text::of(alloc, name)?;
+    let mut docs = List::new(alloc);
+    for pairs in all {
+        let document = document(alloc, pairs)?;
+        docs.push(document).map_err(|_| NoMemory)?;
+    }
+    Ok(Sequence { name, docs })
+}
+
+fn sequences(alloc: Global, given: Sequences) -> Result<List<Sequence>, NoMemory> {
+    let mut sequences = List::new(alloc);
+    for (name, all) in given {
+        let sequence = sequence(alloc, name, all)?;
+        sequences.push(sequence).map_err(|_| NoMemory)?;
+    }
+    Ok(sequences)
+}
+
+fn message(alloc: Global, fields: Fields, beside: Sequences) -> Result<Message, NoMemory> {
+    let body = body(alloc, fields)?;
+    let sequences = sequences(alloc, beside)?;
     Ok(Message {
         request: 7,
         body,
+        sequences,
         foreign: None,
     })
 }
@@ -219,7 +296,7 @@ fn message(alloc: Global, fields: Fields) -> Result<Message, NoMemory> {
 #[test]
 fn a_foreign_element_is_refused_before_all_else(rt: HostRuntime) -> Result<(), Fail> {
     for fields in [PING, INSERT, FIND, UNKNOWN] {
-        let mut message = message(rt.alloc(), fields)?;
+        let mut message = message(rt.alloc(), fields, NOTHING)?;
         message.foreign = Some(Foreign { code: 1, place: 60 });
         match Command::read(rt.alloc(), &message) {
             Ok(_) => panic!(rt; "accepted a foreign element"),
@@ -232,7 +309,7 @@ fn a_foreign_element_is_refused_before_all_else(rt: HostRuntime) -> Result<(), F
 #[test]
 fn each_refusal_has_its_kind(rt: HostRuntime) -> Result<(), Fail> {
     for (fields, kind) in &REFUSED {
-        let message = message(rt.alloc(), fields)?;
+        let message = message(rt.alloc(), fields, NOTHING)?;
         match Command::read(rt.alloc(), &message) {
             Ok(_) => panic!(rt; "accepted what is refused by {kind}"),
             Err(refused) => assert_eq!(rt; refused, CommandRefused::Refused(*kind)),
@@ -242,26 +319,40 @@ fn each_refusal_has_its_kind(rt: HostRuntime) -> Result<(), Fail> {
 }
 
 #[test]
-fn an_insert_is_read_with_its_one_document(rt: HostRuntime) -> Result<(), Fail> {
-    let message = message(rt.alloc(), INSERT)?;
-    let Ok(
-        Command::Insert {
-            op: Op::Insert { space, doc },
-        },
-    ) = Command::read(rt.alloc(), &message)
-    else {
-        panic!(rt; "no insert");
-    };
-    assert_eq!(rt; space.db.as_str(), "t");
-    assert_eq!(rt; space.coll.as_str(), "c");
-    assert_eq!(rt; doc.len(), 1);
-    assert!(rt; matches!(doc.pair(0), Some(("_id", Value::Int(1)))));
+fn each_refusal_of_a_sequence_has_its_kind(rt: HostRuntime) -> Result<(), Fail> {
+    for (fields, beside, kind) in &REFUSED_BESIDE {
+        let message = message(rt.alloc(), fields, beside)?;
+        match Command::read(rt.alloc(), &message) {
+            Ok(_) => panic!(rt; "accepted what is refused by {kind}"),
+            Err(refused) => assert_eq!(rt; refused, CommandRefused::Refused(*kind)),
+        }
+    }
+    Ok(())
+}
+
+#[test]
+fn an_insert_means_the_same_by_the_array_and_by_a_sequence(rt: HostRuntime) -> Result<(), Fail> {
+    for (fields, beside) in [(INSERT, NOTHING), (INSERT_BESIDE, BESIDE)] {
+        let message = message(rt.alloc(), fields, beside)?;
+        let Ok(
+            Command::Insert {
+                op: Op::Insert { space, doc },
+            },
+        ) = Command::read(rt.alloc(), &message)
+        else {
+            panic!(rt; "no insert");
+        };
+        assert_eq!(rt; space.db.as_str(), "t");
+        assert_eq!(rt; space.coll.as_str(), "c");
+        assert_eq!(rt; doc.len(), 1);
+        assert!(rt; matches!(doc.pair(0), Some(("_id", Value::Int(1)))));
+    }
     Ok(())
 }
 
 #[test]
 fn an_id_may_be_a_long(rt: HostRuntime) -> Result<(), Fail> {
-    let message = message(rt.alloc(), INSERT_LONG)?;
+    let message = message(rt.alloc(), INSERT_LONG, NOTHING)?;
     let Ok(
         Command::Insert {
             op: Op::Insert { doc, .. },
@@ -277,7 +368,7 @@ fn an_id_may_be_a_long(rt: HostRuntime) -> Result<(), Fail> {
 #[test]
 fn a_find_is_read_without_a_filter_and_with_an_empty_one(rt: HostRuntime) -> Result<(), Fail> {
     for fields in [FIND, FIND_ALL] {
-        let message = message(rt.alloc(), fields)?;
+        let message = message(rt.alloc(), fields, NOTHING)?;
         let Ok(
             Command::Find {
                 op: Op::Find { space },
@@ -292,8 +383,10 @@ fn a_find_is_read_without_a_filter_and_with_an_empty_one(rt: HostRuntime) -> Res
 }
 
 #[test]
-fn a_ping_is_read(rt: HostRuntime) -> Result<(), Fail> {
-    let message = message(rt.alloc(), PING)?;
-    assert!(rt; matches!(Command::read(rt.alloc(), &message), Ok(Command::Ping)));
+fn a_ping_is_read_whatever_stands_beside_it(rt: HostRuntime) -> Result<(), Fail> {
+    for beside in [NOTHING, UNKNOWN_BESIDE] {
+        let message = message(rt.alloc(), PING, beside)?;
+        assert!(rt; matches!(Command::read(rt.alloc(), &message), Ok(Command::Ping)));
+    }
     Ok(())
 }

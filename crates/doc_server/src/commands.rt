@@ -88,6 +88,23 @@ const UNSUPPORTED: [u8; 108] = [
     0x61, 0x6c, 0x75, 0x65, 0, 0,
 ];
 
+/// `{insert: "c", $db: "t"}` with requestID 7, and a sequence `documents` of `{_id: 1}`.
+const INSERT_BESIDE: [u8; 80] = [
+    0x50, 0, 0, 0, 7, 0, 0, 0, 0, 0, 0, 0, 0xdd, 7, 0, 0, 0, 0, 0, 0, 0, 0x1e, 0, 0, 0, 2, 0x69,
+    0x6e, 0x73, 0x65, 0x72, 0x74, 0, 2, 0, 0, 0, 0x63, 0, 2, 0x24, 0x64, 0x62, 0, 2, 0, 0, 0, 0x74,
+    0, 0, 1, 0x1c, 0, 0, 0, 0x64, 0x6f, 0x63, 0x75, 0x6d, 0x65, 0x6e, 0x74, 0x73, 0, 0xe, 0, 0, 0,
+    0x10, 0x5f, 0x69, 0x64, 0, 1, 0, 0, 0, 0,
+];
+
+/// The same with a sequence of `{_id: 1}` and `{_id: 2, a: 1.0}`; `a` is a double.
+const INSERT_DOUBLE_BESIDE: [u8; 105] = [
+    0x69, 0, 0, 0, 7, 0, 0, 0, 0, 0, 0, 0, 0xdd, 7, 0, 0, 0, 0, 0, 0, 0, 0x1e, 0, 0, 0, 2, 0x69,
+    0x6e, 0x73, 0x65, 0x72, 0x74, 0, 2, 0, 0, 0, 0x63, 0, 2, 0x24, 0x64, 0x62, 0, 2, 0, 0, 0, 0x74,
+    0, 0, 1, 0x35, 0, 0, 0, 0x64, 0x6f, 0x63, 0x75, 0x6d, 0x65, 0x6e, 0x74, 0x73, 0, 0xe, 0, 0, 0,
+    0x10, 0x5f, 0x69, 0x64, 0, 1, 0, 0, 0, 0, 0x19, 0, 0, 0, 0x10, 0x5f, 0x69, 0x64, 0, 2, 0, 0, 0,
+    1, 0x61, 0, 0, 0, 0, 0, 0, 0, 0xf0, 0x3f, 0,
+];
+
 #[test]
 fn a_document_goes_in_and_comes_out_however_the_input_is_cut(rt: HostRuntime) -> Result<(), Fail> {
     let input = joined(rt.alloc(), &[&INSERT, &FIND])?;
@@ -123,6 +140,22 @@ fn an_unsupported_type_is_told_by_name_and_the_next_message_is_answered(
     let answers = joined(rt.alloc(), &[&UNSUPPORTED, &second])?;
     let came = piped(rt.alloc(), input.as_slice())?;
     assert_eq!(rt; came.written.as_slice(), answers.as_slice());
+    Ok(())
+}
+
+#[test]
+fn an_insert_by_a_sequence_is_answered_as_one_by_the_array(rt: HostRuntime) -> Result<(), Fail> {
+    let input = joined(rt.alloc(), &[&INSERT_BESIDE, &FIND])?;
+    let answers = joined(rt.alloc(), &[&INSERTED, &FOUND])?;
+    let came = piped(rt.alloc(), input.as_slice())?;
+    assert_eq!(rt; came.written.as_slice(), answers.as_slice());
+    Ok(())
+}
+
+#[test]
+fn an_unsupported_type_is_told_in_any_document_of_a_sequence(rt: HostRuntime) -> Result<(), Fail> {
+    let came = piped(rt.alloc(), &INSERT_DOUBLE_BESIDE)?;
+    assert_eq!(rt; came.written.as_slice(), UNSUPPORTED.as_slice());
     Ok(())
 }
 

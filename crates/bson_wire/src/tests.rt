@@ -7,7 +7,7 @@ use std::test::Fail;
 
 /// A value of each type: `{a: "x", b: {c: false}, d: [null, true], e: bin 5 01ff, f: an id, g: true, h: a date, i: null,
 /// j: /^x/i, k: -1, l: a timestamp, m: 4L}`, and two bytes behind it.
-const ALL: [u8; 123] = [
+static ALL: [u8; 123] = [
     121, 0, 0, 0, 0x02, 97, 0, 2, 0, 0, 0, 120, 0, 0x03, 98, 0, 9, 0, 0, 0, 0x08, 99, 0, 0, 0,
     0x04, 100, 0, 12, 0, 0, 0, 0x0a, 48, 0, 0x08, 49, 0, 1, 0, 0x05, 101, 0, 2, 0, 0, 0, 5, 1, 255,
     0x07, 102, 0, 7, 7, 7, 7, 7, 7, 7, 7, 7, 7, 7, 8, 0x08, 103, 0, 1, 0x09, 104, 0, 254, 255, 255,

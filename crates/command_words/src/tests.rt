@@ -78,7 +78,7 @@ const UNKNOWN_BESIDE: Sequences = &[("x", &[ID])];
 const UNKNOWN: Fields = &[("frobnicate", COLL), ("$db", DB)];
 
 /// Bodies with the kinds by which they are refused.
-const REFUSED: [(Fields, u32); 20] = [
+static REFUSED: [(Fields, u32); 20] = [
     (&[("insert", COLL), ("documents", DOCUMENT)], 14),
     (&[("find", COLL), ("$db", Given::Number(1))], 17),
     (&[("find", COLL), ("$db", Given::Text("a b"))], 27),
@@ -164,7 +164,7 @@ const REFUSED: [(Fields, u32); 20] = [
 ];
 
 /// Bodies and sequences with the kinds by which they are refused.
-const REFUSED_BESIDE: [(Fields, Sequences, u32); 14] = [
+static REFUSED_BESIDE: [(Fields, Sequences, u32); 14] = [
     (INSERT, BESIDE, 13),
     (
         INSERT_BESIDE,

@@ -18,11 +18,18 @@ store_of kept = record { collections = kept.collections.items; next = kept.next 
 -- where the collection of a space stands, or that none does
 abbrev pub Stands : Space → List Collection → Option ℕ → Type 0
 Stands space cs None = collection_of space cs ≡ None
-Stands space cs (Some place) = (place < length cs) × ((d : Collection) → (collection_of space cs ≡ Some (get_or cs place d)) × ((doc : List (Pair Value)) → with_last space doc cs ≡ set cs place (record (get_or cs place d) { docs = (get_or cs place d).docs ++ doc ∷ [] })))
+Stands space cs (Some place) =
+    (place < length cs)
+    × ((d : Collection) → (collection_of space cs ≡ Some (get_or cs place d))
+    × ((doc : List (Pair Value))
+      → with_last space doc cs ≡ set cs place (record (get_or cs place d) { docs = (get_or cs place d).docs ++ doc ∷ [] })))
 
 -- a document went last into a collection, or was refused
 abbrev pub Adds : ℕ → List (Pair Value) → Collection → Collection → OpReply → Type 0
-Adds next doc old new Inserted = (has_id doc old.docs ≡ false) × (next ≤ 9223372036854775807) × (new ≡ record old { docs = old.docs ++ doc ∷ [] })
-Adds next doc old new (Refused kind) = (new ≡ old) × (kind ≡ (if has_id doc old.docs then DUPLICATE_KEY else NUMBERS_SPENT)) × (has_id doc old.docs ≡ false → 9223372036854775807 < next)
+Adds next doc old new Inserted =
+    (has_id doc old.docs ≡ false) × (next ≤ 9223372036854775807) × (new ≡ record old { docs = old.docs ++ doc ∷ [] })
+Adds next doc old new (Refused kind) =
+    (new ≡ old) × (kind ≡ (if has_id doc old.docs then DUPLICATE_KEY else NUMBERS_SPENT))
+    × (has_id doc old.docs ≡ false → 9223372036854775807 < next)
 Adds next doc old new NoMemory = new ≡ old
 Adds next doc old new (Selected docs) = ⊥

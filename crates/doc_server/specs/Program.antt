@@ -88,7 +88,8 @@ pub record Answered (seat number : ℕ) (e : End) (script : List Executed) (rest
 abbrev pub AnswersAll : ℕ → ℕ → Option (List ℕ) → End → Type 0
 AnswersAll seat number None e = Unit {0}
 AnswersAll seat number (Some input) e =
-    (left : List ℕ) → e.link.left ≡ Some left → IsCutOff e.why ⊎ ((script : List Executed) × (rest : List ℕ) × frames input (messages script) rest × Answered seat number e script rest)
+    (left : List ℕ) → e.link.left ≡ Some left → IsCutOff e.why
+    ⊎ ((script : List Executed) × (rest : List ℕ) × frames input (messages script) rest × Answered seat number e script rest)
 
 -- the statuses that come where no call of the console can fail: its input is answered, cut, bad or too long, or memory ran out
 abbrev pub IsSureStatus : ℕ → Type 0

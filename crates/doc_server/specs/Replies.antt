@@ -45,11 +45,13 @@ inserted_document = field (codes "n") (Int (pos 1)) ∷ field (codes "ok") (Int 
 
 -- {index: 0, code: .., errmsg: ..}
 abbrev pub item_error : ℕ → List (Pair Value)
-item_error kind = field (codes "index") (Int (pos 0)) ∷ field (codes "code") (Int (pos (code_of kind))) ∷ field (codes "errmsg") (Str (text_of kind)) ∷ []
+item_error kind =
+    field (codes "index") (Int (pos 0)) ∷ field (codes "code") (Int (pos (code_of kind))) ∷ field (codes "errmsg") (Str (text_of kind)) ∷ []
 
 -- {n: 0, writeErrors: [..], ok: 1}
 abbrev pub refused_document : ℕ → List (Pair Value)
-refused_document kind = field (codes "n") (Int (pos 0)) ∷ field (codes "writeErrors") (Arr (Doc (item_error kind) ∷ [])) ∷ field (codes "ok") (Int (pos 1)) ∷ []
+refused_document kind =
+    field (codes "n") (Int (pos 0)) ∷ field (codes "writeErrors") (Arr (Doc (item_error kind) ∷ [])) ∷ field (codes "ok") (Int (pos 1)) ∷ []
 
 -- db.coll
 abbrev pub namespace : Space → List ℕ
@@ -57,7 +59,8 @@ namespace space = space.db ++ codes "." ++ space.coll
 
 -- {firstBatch: [..], id: 0L, ns: ..}
 abbrev pub cursor_document : Space → List (List (Pair Value)) → List (Pair Value)
-cursor_document space docs = field (codes "firstBatch") (Arr (map Doc docs)) ∷ field (codes "id") (Long (pos 0)) ∷ field (codes "ns") (Str (namespace space)) ∷ []
+cursor_document space docs =
+    field (codes "firstBatch") (Arr (map Doc docs)) ∷ field (codes "id") (Long (pos 0)) ∷ field (codes "ns") (Str (namespace space)) ∷ []
 
 -- {cursor: {..}, ok: 1}
 abbrev pub batch_document : Space → List (List (Pair Value)) → List (Pair Value)

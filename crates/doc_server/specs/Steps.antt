@@ -23,9 +23,13 @@ pub record Dealt (m : Message) (k : ℕ) (old new : Scene) (before after : Store
 
 -- it was, and its answer was written, or a front of it where a write failed; or it was not, for want of memory
 abbrev pub Answers : Replied → Message → ℕ → Scene → Scene → Store → Store → Type 0
-Answers replied.Sent m k old new before after = (dealt : Dealt m k old new before after) × Grows old.wrote new.wrote (answer k m dealt.replies)
-Answers replied.WriteFault m k old new before after = (dealt : Dealt m k old new before after) × (sent : ℕ) × Grows old.wrote new.wrote (take sent (answer k m dealt.replies))
-Answers replied.NoMemory m k old new before after = (new.wrote ≡ old.wrote) × (after ≡ before) × (now : ℕ) × Grows old.moments new.moments (now ∷ [])
+Answers replied.Sent m k old new before after =
+    (dealt : Dealt m k old new before after) × Grows old.wrote new.wrote (answer k m dealt.replies)
+Answers replied.WriteFault m k old new before after =
+    (dealt : Dealt m k old new before after) × (sent : ℕ)
+    × Grows old.wrote new.wrote (take sent (answer k m dealt.replies))
+Answers replied.NoMemory m k old new before after =
+    (new.wrote ≡ old.wrote) × (after ≡ before) × (now : ℕ) × Grows old.moments new.moments (now ∷ [])
 
 -- how the input ends in a fetch: with `count` bytes before it, `buffer` those that are not used, `piece` those that came
 abbrev pub Stops : Why → ℕ → List ℕ → List ℕ → Type 0

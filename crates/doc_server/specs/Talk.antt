@@ -66,4 +66,5 @@ pub record Talk (seat number : ℕ) (old new : Scene) (before after : Store) (wh
 -- the same, of some script that leaves a rest which shows the end
 abbrev pub Talks : ℕ → ℕ → Scene → Scene → Store → Store → Why → ℕ → Type 0
 Talks seat number old new before after why commands =
-    (all : List ℕ) × (script : List Executed) × (rest : List ℕ) × Talk seat number old new before after why commands all script rest × Ends why all rest
+    (all : List ℕ) × (script : List Executed) × (rest : List ℕ)
+    × Talk seat number old new before after why commands all script rest × Ends why all rest

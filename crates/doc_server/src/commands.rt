@@ -5,7 +5,7 @@ use std::alloc::Global;
 use std::test::Fail;
 
 /// `{insert: "c", documents: [{_id: 1}], $db: "t"}` with requestID 7. The number of the `_id` is at 66.
-const INSERT: [u8; 84] = [
+static INSERT: [u8; 84] = [
     0x54, 0, 0, 0, 7, 0, 0, 0, 0, 0, 0, 0, 0xdd, 7, 0, 0, 0, 0, 0, 0, 0, 0x3f, 0, 0, 0, 2, 0x69,
     0x6e, 0x73, 0x65, 0x72, 0x74, 0, 2, 0, 0, 0, 0x63, 0, 4, 0x64, 0x6f, 0x63, 0x75, 0x6d, 0x65,
     0x6e, 0x74, 0x73, 0, 0x16, 0, 0, 0, 3, 0x30, 0, 0xe, 0, 0, 0, 0x10, 0x5f, 0x69, 0x64, 0, 1, 0,
@@ -13,19 +13,19 @@ const INSERT: [u8; 84] = [
 ];
 
 /// `{n: 1, ok: 1}`, the first reply, to requestID 7.
-const INSERTED: [u8; 41] = [
+static INSERTED: [u8; 41] = [
     0x29, 0, 0, 0, 1, 0, 0, 0, 7, 0, 0, 0, 0xdd, 7, 0, 0, 0, 0, 0, 0, 0, 0x14, 0, 0, 0, 0x10, 0x6e,
     0, 1, 0, 0, 0, 0x10, 0x6f, 0x6b, 0, 1, 0, 0, 0, 0,
 ];
 
 /// `{find: "c", $db: "t"}` with requestID 8.
-const FIND: [u8; 49] = [
+static FIND: [u8; 49] = [
     0x31, 0, 0, 0, 8, 0, 0, 0, 0, 0, 0, 0, 0xdd, 7, 0, 0, 0, 0, 0, 0, 0, 0x1c, 0, 0, 0, 2, 0x66,
     0x69, 0x6e, 0x64, 0, 2, 0, 0, 0, 0x63, 0, 2, 0x24, 0x64, 0x62, 0, 2, 0, 0, 0, 0x74, 0, 0,
 ];
 
 /// `{cursor: {firstBatch: [{_id: 1}], id: 0L, ns: "t.c"}, ok: 1}`, the second reply, to requestID 8.
-const FOUND: [u8; 105] = [
+static FOUND: [u8; 105] = [
     0x69, 0, 0, 0, 2, 0, 0, 0, 8, 0, 0, 0, 0xdd, 7, 0, 0, 0, 0, 0, 0, 0, 0x54, 0, 0, 0, 3, 0x63,
     0x75, 0x72, 0x73, 0x6f, 0x72, 0, 0x3f, 0, 0, 0, 4, 0x66, 0x69, 0x72, 0x73, 0x74, 0x42, 0x61,
     0x74, 0x63, 0x68, 0, 0x16, 0, 0, 0, 3, 0x30, 0, 0xe, 0, 0, 0, 0x10, 0x5f, 0x69, 0x64, 0, 1, 0,
@@ -34,7 +34,7 @@ const FOUND: [u8; 105] = [
 ];
 
 /// `{insert: "c", documents: [{_id: "1"}], $db: "t"}` with requestID 7.
-const INSERT_TEXT: [u8; 86] = [
+static INSERT_TEXT: [u8; 86] = [
     0x56, 0, 0, 0, 7, 0, 0, 0, 0, 0, 0, 0, 0xdd, 7, 0, 0, 0, 0, 0, 0, 0, 0x41, 0, 0, 0, 2, 0x69,
     0x6e, 0x73, 0x65, 0x72, 0x74, 0, 2, 0, 0, 0, 0x63, 0, 4, 0x64, 0x6f, 0x63, 0x75, 0x6d, 0x65,
     0x6e, 0x74, 0x73, 0, 0x18, 0, 0, 0, 3, 0x30, 0, 0x10, 0, 0, 0, 2, 0x5f, 0x69, 0x64, 0, 2, 0, 0,
@@ -42,7 +42,7 @@ const INSERT_TEXT: [u8; 86] = [
 ];
 
 /// `{n: 0, writeErrors: [{index: 0, code: 11000, errmsg: "duplicate key"}], ok: 1}`.
-const DUPLICATE: [u8; 93] = [
+static DUPLICATE: [u8; 93] = [
     0x5d, 0, 0, 0, 0x10, 0x6e, 0, 0, 0, 0, 0, 4, 0x77, 0x72, 0x69, 0x74, 0x65, 0x45, 0x72, 0x72,
     0x6f, 0x72, 0x73, 0, 0x3c, 0, 0, 0, 3, 0x30, 0, 0x34, 0, 0, 0, 0x10, 0x69, 0x6e, 0x64, 0x65,
     0x78, 0, 0, 0, 0, 0, 0x10, 0x63, 0x6f, 0x64, 0x65, 0, 0xf8, 0x2a, 0, 0, 2, 0x65, 0x72, 0x72,
@@ -51,7 +51,7 @@ const DUPLICATE: [u8; 93] = [
 ];
 
 /// `{cursor: {firstBatch: [{_id: 1}, {_id: "1"}], id: 0L, ns: "t.c"}, ok: 1}`.
-const BOTH: [u8; 103] = [
+static BOTH: [u8; 103] = [
     0x67, 0, 0, 0, 3, 0x63, 0x75, 0x72, 0x73, 0x6f, 0x72, 0, 0x52, 0, 0, 0, 4, 0x66, 0x69, 0x72,
     0x73, 0x74, 0x42, 0x61, 0x74, 0x63, 0x68, 0, 0x29, 0, 0, 0, 3, 0x30, 0, 0xe, 0, 0, 0, 0x10,
     0x5f, 0x69, 0x64, 0, 1, 0, 0, 0, 0, 3, 0x31, 0, 0x10, 0, 0, 0, 2, 0x5f, 0x69, 0x64, 0, 2, 0, 0,
@@ -60,17 +60,17 @@ const BOTH: [u8; 103] = [
 ];
 
 /// The header of the third reply, of 114 bytes, to requestID 7.
-const THIRD: [u8; 21] = [
+static THIRD: [u8; 21] = [
     0x72, 0, 0, 0, 3, 0, 0, 0, 7, 0, 0, 0, 0xdd, 7, 0, 0, 0, 0, 0, 0, 0,
 ];
 
 /// The header of the fourth reply, of 124 bytes, to requestID 8.
-const FOURTH: [u8; 21] = [
+static FOURTH: [u8; 21] = [
     0x7c, 0, 0, 0, 4, 0, 0, 0, 8, 0, 0, 0, 0xdd, 7, 0, 0, 0, 0, 0, 0, 0,
 ];
 
 /// `{insert: "c", documents: [{_id: 1, a: 1.0}], $db: "t"}` with requestID 7; `a` is a double.
-const INSERT_DOUBLE: [u8; 95] = [
+static INSERT_DOUBLE: [u8; 95] = [
     0x5f, 0, 0, 0, 7, 0, 0, 0, 0, 0, 0, 0, 0xdd, 7, 0, 0, 0, 0, 0, 0, 0, 0x4a, 0, 0, 0, 2, 0x69,
     0x6e, 0x73, 0x65, 0x72, 0x74, 0, 2, 0, 0, 0, 0x63, 0, 4, 0x64, 0x6f, 0x63, 0x75, 0x6d, 0x65,
     0x6e, 0x74, 0x73, 0, 0x21, 0, 0, 0, 3, 0x30, 0, 0x19, 0, 0, 0, 0x10, 0x5f, 0x69, 0x64, 0, 1, 0,
@@ -79,7 +79,7 @@ const INSERT_DOUBLE: [u8; 95] = [
 ];
 
 /// `{ok: 0, errmsg: "unsupported BSON type double", code: 2, codeName: "BadValue"}`, the first reply, to requestID 7.
-const UNSUPPORTED: [u8; 108] = [
+static UNSUPPORTED: [u8; 108] = [
     0x6c, 0, 0, 0, 1, 0, 0, 0, 7, 0, 0, 0, 0xdd, 7, 0, 0, 0, 0, 0, 0, 0, 0x57, 0, 0, 0, 0x10, 0x6f,
     0x6b, 0, 0, 0, 0, 0, 2, 0x65, 0x72, 0x72, 0x6d, 0x73, 0x67, 0, 0x1d, 0, 0, 0, 0x75, 0x6e, 0x73,
     0x75, 0x70, 0x70, 0x6f, 0x72, 0x74, 0x65, 0x64, 0x20, 0x42, 0x53, 0x4f, 0x4e, 0x20, 0x74, 0x79,
@@ -89,7 +89,7 @@ const UNSUPPORTED: [u8; 108] = [
 ];
 
 /// `{insert: "c", $db: "t"}` with requestID 7, and a sequence `documents` of `{_id: 1}`.
-const INSERT_BESIDE: [u8; 80] = [
+static INSERT_BESIDE: [u8; 80] = [
     0x50, 0, 0, 0, 7, 0, 0, 0, 0, 0, 0, 0, 0xdd, 7, 0, 0, 0, 0, 0, 0, 0, 0x1e, 0, 0, 0, 2, 0x69,
     0x6e, 0x73, 0x65, 0x72, 0x74, 0, 2, 0, 0, 0, 0x63, 0, 2, 0x24, 0x64, 0x62, 0, 2, 0, 0, 0, 0x74,
     0, 0, 1, 0x1c, 0, 0, 0, 0x64, 0x6f, 0x63, 0x75, 0x6d, 0x65, 0x6e, 0x74, 0x73, 0, 0xe, 0, 0, 0,
@@ -97,7 +97,7 @@ const INSERT_BESIDE: [u8; 80] = [
 ];
 
 /// The same with a sequence of `{_id: 1}` and `{_id: 2, a: 1.0}`; `a` is a double.
-const INSERT_DOUBLE_BESIDE: [u8; 105] = [
+static INSERT_DOUBLE_BESIDE: [u8; 105] = [
     0x69, 0, 0, 0, 7, 0, 0, 0, 0, 0, 0, 0, 0xdd, 7, 0, 0, 0, 0, 0, 0, 0, 0x1e, 0, 0, 0, 2, 0x69,
     0x6e, 0x73, 0x65, 0x72, 0x74, 0, 2, 0, 0, 0, 0x63, 0, 2, 0x24, 0x64, 0x62, 0, 2, 0, 0, 0, 0x74,
     0, 0, 1, 0x35, 0, 0, 0, 0x64, 0x6f, 0x63, 0x75, 0x6d, 0x65, 0x6e, 0x74, 0x73, 0, 0xe, 0, 0, 0,
@@ -294,7 +294,7 @@ const NO_COMMAND: Told = (59, "CommandNotFound", "no such command");
 
 const NOT_SUPPORTED: Told = (238, "NotImplemented", "not supported");
 
-const REFUSED: [(Fields, Told); 13] = [
+static REFUSED: [(Fields, Told); 13] = [
     (&[("find", COLL)], MISSING),
     (&[("find", COLL), ("$db", Given::Number(1))], WRONG_TYPE),
     (&[("find", COLL), ("$db", Given::Text("a b"))], INVALID),

@@ -22,7 +22,7 @@ pub(crate) const OK: [u8; 34] = [
 ];
 
 /// `{pong: 1, $db: "a"}` with requestID 7.
-const PONG: [u8; 47] = [
+static PONG: [u8; 47] = [
     0x2f, 0, 0, 0, 7, 0, 0, 0, 0, 0, 0, 0, 0xdd, 7, 0, 0, 0, 0, 0, 0, 0, 0x1a, 0, 0, 0, 0x10, 0x70,
     0x6f, 0x6e, 0x67, 0, 1, 0, 0, 0, 2, 0x24, 0x64, 0x62, 0, 2, 0, 0, 0, 0x61, 0, 0,
 ];
@@ -198,7 +198,7 @@ fn nested(alloc: Global, levels: u32) -> Result<Bytes, NoMemory>
 }
 
 /// A body whose field `b` is the bool 02.
-const BOOL_02: [u8; 30] = [
+static BOOL_02: [u8; 30] = [
     0x1e, 0, 0, 0, 1, 0, 0, 0, 0, 0, 0, 0, 0xdd, 7, 0, 0, 0, 0, 0, 0, 0, 9, 0, 0, 0, 8, 0x62, 0, 2,
     0,
 ];

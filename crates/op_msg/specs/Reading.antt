@@ -60,7 +60,9 @@ in_message place (Err at) = Err (Document, place + at)
 
 -- a document at a place, in the section whose kind byte stands at `section`: a fault of that section, where not even a length is there
 unfoldable pub document_in : ℕ → ℕ → List ℕ → Result (Found (List (Pair Value))) Fault
-document_in section place bytes = if nat_lt (length bytes) 4 then Err (Section, section) else in_message place (document_at 128 (length bytes) bytes)
+document_in section place bytes =
+    if nat_lt (length bytes) 4 then Err (Section, section)
+    else in_message place (document_at 128 (length bytes) bytes)
 
 module _ {A : Type 0} (goes_on : List ℕ → Bool) (one : List ℕ → Result (Found A) Fault) where
   -- one after another, as long as the bytes go on with one; `most` bounds how many
@@ -73,7 +75,8 @@ module _ {A : Type 0} (goes_on : List ℕ → Bool) (one : List ℕ → Result (
 
 -- documents that fill the bytes, which end at `end`
 abbrev pub documents_at : ℕ → ℕ → List ℕ → Result (Found (List (List (Pair Value)))) Fault
-documents_at end section bytes = many_at (λ rest. nat_lt 0 (length rest)) (λ rest. document_in section (end - length rest) rest) (length bytes) bytes
+documents_at end section bytes =
+    many_at (λ rest. nat_lt 0 (length rest)) (λ rest. document_in section (end - length rest) rest) (length bytes) bytes
 
 -- what stands within a size, which counts itself and at least the 00 of an identifier, and the bytes behind that
 unfoldable pub sized_at : ℕ → List ℕ → Result (List ℕ × List ℕ) Fault
@@ -90,12 +93,16 @@ identifier_at section (Err place) = Err (Section, section)
 
 -- a section of kind 1, behind its kind byte: its size, and within that its identifier and its documents
 unfoldable pub sequence_at : ℕ → ℕ → List ℕ → Result (Found Sequence) Fault
-sequence_at end section bytes = sized_at section bytes >>= λ part. identifier_at section (name_at section part.0) >>= λ name.
-    documents_at (end - length part.1) section name.1 >>= λ docs. Ok (record { name = name.0; docs = docs.0 }, docs.1, part.1)
+sequence_at end section bytes =
+    sized_at section bytes >>= λ part.
+    identifier_at section (name_at section part.0) >>= λ name.
+    documents_at (end - length part.1) section name.1 >>= λ docs.
+    Ok (record { name = name.0; docs = docs.0 }, docs.1, part.1)
 
 -- sections of kind 1, up to one of another kind or to the end
 abbrev pub sequences_at : ℕ → List ℕ → Result (Found (List Sequence)) Fault
-sequences_at end bytes = many_at (λ rest. slice_index rest 0 == 1) (λ rest. sequence_at end (end - length rest) (drop 1 rest)) (length bytes) bytes
+sequences_at end bytes =
+    many_at (λ rest. slice_index rest 0 == 1) (λ rest. sequence_at end (end - length rest) (drop 1 rest)) (length bytes) bytes
 
 -- the same, behind those that were read before
 abbrev pub behind_those : List Sequence → Result (Found (List Sequence)) Fault → Result (Found (List Sequence)) Fault
@@ -114,12 +121,22 @@ end_at end bytes = if length bytes == 0 then Ok tt else body_at end bytes >>= λ
 
 -- the message with that requestID whose sections these are, which end at `end`
 unfoldable pub content_at : ℤ → ℕ → List ℕ → Result Message Fault
-content_at request end bytes = sequences_at end bytes >>= λ before. body_at end before.2 >>= λ body. sequences_at end body.2 >>= λ after. end_at end after.2 >>= λ none.
-    Ok (record { request = request; body = body.0; sequences = before.0 ++ after.0; foreign = option_or before.1 (option_or body.1 after.1) })
+content_at request end bytes =
+    sequences_at end bytes >>= λ before.
+    body_at end before.2 >>= λ body.
+    sequences_at end body.2 >>= λ after.
+    end_at end after.2 >>= λ none.
+    Ok (record {
+      request = request;
+      body = body.0;
+      sequences = before.0 ++ after.0;
+      foreign = option_or before.1 (option_or body.1 after.1);
+    })
 
 -- the message that all these bytes are
 unfoldable pub message_at : List ℕ → Result Message Fault
-message_at bytes = sections_at bytes >>= λ sections. content_at (cast_signed w32 (little_number 4 (drop 4 bytes))) (length bytes) sections
+message_at bytes =
+    sections_at bytes >>= λ sections. content_at (cast_signed w32 (little_number 4 (drop 4 bytes))) (length bytes) sections
 
 -- the fault, where there is one
 abbrev pub fault_of : {A : Type 0} → Result A Fault → Option Fault

@@ -7,7 +7,8 @@ use Rattle.bson_wire.specs.Spelling.{int32, spell}
 
 -- messageLength, requestID, responseTo, opCode, flagBits, and the kind of the one section
 abbrev pub header : ℤ → ℤ → ℕ → List ℕ
-header number request size = int32 (size + 21) ++ int32 (cast_unsigned w32 number) ++ int32 (cast_unsigned w32 request) ++ int32 2013 ++ int32 0 ++ 0 ∷ []
+header number request size =
+    int32 (size + 21) ++ int32 (cast_unsigned w32 number) ++ int32 (cast_unsigned w32 request) ++ int32 2013 ++ int32 0 ++ 0 ∷ []
 
 abbrev pub reply : ℤ → ℤ → List (Pair Value) → List ℕ
 reply number request doc = header number request (length (spell doc)) ++ spell doc

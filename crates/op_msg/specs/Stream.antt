@@ -30,8 +30,9 @@ module _ {A : Type 0} (Is : ℕ → List ℕ → A → Option Foreign → Type 0
   -- one after another
   abbrev pub AreInOrder : ℕ → List ℕ → List A → Option Foreign → Type 0
   AreInOrder place bytes [] foreign = (bytes ≡ []) × (foreign ≡ None)
-  AreInOrder place bytes (it ∷ more) foreign = (piece : List ℕ) × (rest : List ℕ) × (own : Option Foreign) × (others : Option Foreign)
-      × (bytes ≡ piece ++ rest) × Is place piece it own × AreInOrder (place + length piece) rest more others × (foreign ≡ option_or own others)
+  AreInOrder place bytes (it ∷ more) foreign =
+      (piece : List ℕ) × (rest : List ℕ) × (own : Option Foreign) × (others : Option Foreign) × (bytes ≡ piece ++ rest)
+      × Is place piece it own × AreInOrder (place + length piece) rest more others × (foreign ≡ option_or own others)
 
 -- a section of kind 1: a size, which counts the bytes behind the kind byte, an identifier, and documents
 pub record IsSequence (place : ℕ) (bytes : List ℕ) (it : Sequence) (foreign : Option Foreign) : Type 0 where
@@ -67,13 +68,15 @@ pub record message (bytes : List ℕ) (m : Message) : Type 0 where
   pub request : FitsSigned w32 m.request
   pub four : length response_to ≡ 4
   pub two : length high_flags ≡ 2
-  pub whole : bytes ≡ int32 (length bytes) ++ int32 (cast_unsigned w32 m.request) ++ response_to ++ int32 2013 ++ (0 ∷ 0 ∷ []) ++ high_flags ++ sections
+  pub whole : bytes ≡ int32 (length bytes) ++ int32 (cast_unsigned w32 m.request) ++ response_to ++ int32 2013
+      ++ (0 ∷ 0 ∷ []) ++ high_flags ++ sections
   pub are : AreSections 20 sections m
 
 -- the messages one after another, then the rest
 abbrev pub in_order : List ℕ → List Message → List ℕ → Type 0
 in_order bytes [] rest = bytes ≡ rest
-in_order bytes (m ∷ ms) rest = (piece : List ℕ) × (behind : List ℕ) × (bytes ≡ piece ++ behind) × message piece m × in_order behind ms rest
+in_order bytes (m ∷ ms) rest =
+    (piece : List ℕ) × (behind : List ℕ) × (bytes ≡ piece ++ behind) × message piece m × in_order behind ms rest
 
 -- no message stands at the front
 abbrev pub BeginsNone : List ℕ → Type 0
@@ -87,4 +90,6 @@ pub record frames (bytes : List ℕ) (ms : List Message) (rest : List ℕ) : Typ
 -- A stream that comes in pieces: behind each piece all whole messages are taken, and the bytes behind them are kept.
 abbrev pub TakenFrom : List ℕ → List (List ℕ) → List Message → List ℕ → Type 0
 TakenFrom kept [] ms rest = (ms ≡ []) × (kept ≡ rest)
-TakenFrom kept (piece ∷ pieces) ms rest = (now : List Message) × (later : List Message) × (behind : List ℕ) × (ms ≡ now ++ later) × frames (kept ++ piece) now behind × TakenFrom behind pieces later rest
+TakenFrom kept (piece ∷ pieces) ms rest =
+    (now : List Message) × (later : List Message) × (behind : List ℕ) × (ms ≡ now ++ later)
+    × frames (kept ++ piece) now behind × TakenFrom behind pieces later rest

@@ -34,7 +34,7 @@ pub enum BadKind {
     Flags,
     /// A checksum follows.
     Checksum,
-    /// A section has another kind byte, or less bytes than it says of itself.
+    /// A section has another kind byte, a size that does not fit, no identifier, or too few bytes for a length.
     Section,
     /// There is no section of kind 0, or a second.
     Body,

@@ -17,7 +17,7 @@ fn message(alloc: Global, sections: &[u8]) -> Result<Bytes, NoMemory>
 }
 
 /// A sequence `d` of `{a: 1}` and `{a: 2}`, the body `{}`, and a sequence `e` of none.
-const TWO_SEQUENCES: [u8; 44] = [
+static TWO_SEQUENCES: [u8; 44] = [
     1, 0x1e, 0, 0, 0, 0x64, 0, 0xc, 0, 0, 0, 0x10, 0x61, 0, 1, 0, 0, 0, 0, 0xc, 0, 0, 0, 0x10,
     0x61, 0, 2, 0, 0, 0, 0, 0, 5, 0, 0, 0, 0, 1, 6, 0, 0, 0, 0x65, 0,
 ];

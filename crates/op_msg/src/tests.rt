@@ -7,47 +7,47 @@ use std::alloc::Global;
 use std::test::Fail;
 
 /// `{ping: 1, $db: "admin"}` with requestID 1.
-const PING: [u8; 51] = [
+static PING: [u8; 51] = [
     0x33, 0, 0, 0, 1, 0, 0, 0, 0, 0, 0, 0, 0xdd, 7, 0, 0, 0, 0, 0, 0, 0, 0x1e, 0, 0, 0, 0x10, 0x70,
     0x69, 0x6e, 0x67, 0, 1, 0, 0, 0, 2, 0x24, 0x64, 0x62, 0, 6, 0, 0, 0, 0x61, 0x64, 0x6d, 0x69,
     0x6e, 0, 0,
 ];
 
 /// Two sections of kind 0 with `{}`.
-const TWO_BODIES: [u8; 32] = [
+static TWO_BODIES: [u8; 32] = [
     0x20, 0, 0, 0, 1, 0, 0, 0, 0, 0, 0, 0, 0xdd, 7, 0, 0, 0, 0, 0, 0, 0, 5, 0, 0, 0, 0, 0, 5, 0, 0,
     0, 0,
 ];
 
 /// A section of kind 0 with `{}`, and one of kind 2.
-const KIND_2: [u8; 27] = [
+static KIND_2: [u8; 27] = [
     0x1b, 0, 0, 0, 1, 0, 0, 0, 0, 0, 0, 0, 0xdd, 7, 0, 0, 0, 0, 0, 0, 0, 5, 0, 0, 0, 0, 2,
 ];
 
 /// A section of kind 0 with three bytes.
-const THREE_BYTES: [u8; 24] = [
+static THREE_BYTES: [u8; 24] = [
     0x18, 0, 0, 0, 1, 0, 0, 0, 0, 0, 0, 0, 0xdd, 7, 0, 0, 0, 0, 0, 0, 0, 5, 0, 0,
 ];
 
 /// A body whose field `b` is the bool 02.
-const BOOL_02: [u8; 30] = [
+static BOOL_02: [u8; 30] = [
     0x1e, 0, 0, 0, 1, 0, 0, 0, 0, 0, 0, 0, 0xdd, 7, 0, 0, 0, 0, 0, 0, 0, 9, 0, 0, 0, 8, 0x62, 0, 2,
     0,
 ];
 
 /// `{}` with the flag of bit 31, which may be ignored.
-const HIGH_FLAG: [u8; 26] = [
+static HIGH_FLAG: [u8; 26] = [
     0x1a, 0, 0, 0, 1, 0, 0, 0, 0, 0, 0, 0, 0xdd, 7, 0, 0, 0, 0, 0, 0x80, 0, 5, 0, 0, 0, 0,
 ];
 
 /// `{x: maxKey, b: 7, c: [undefined]}`.
-const MAX_KEY: [u8; 47] = [
+static MAX_KEY: [u8; 47] = [
     0x2f, 0, 0, 0, 1, 0, 0, 0, 0, 0, 0, 0, 0xdd, 7, 0, 0, 0, 0, 0, 0, 0, 0x1a, 0, 0, 0, 0x7f, 0x78,
     0, 0x10, 0x62, 0, 7, 0, 0, 0, 4, 0x63, 0, 8, 0, 0, 0, 6, 0x30, 0, 0, 0,
 ];
 
 /// `{b: 7, c: [undefined]}`.
-const UNDEFINED: [u8; 44] = [
+static UNDEFINED: [u8; 44] = [
     0x2c, 0, 0, 0, 1, 0, 0, 0, 0, 0, 0, 0, 0xdd, 7, 0, 0, 0, 0, 0, 0, 0, 0x17, 0, 0, 0, 0x10, 0x62,
     0, 7, 0, 0, 0, 4, 0x63, 0, 8, 0, 0, 0, 6, 0x30, 0, 0, 0,
 ];

@@ -1,5 +1,5 @@
 #!/usr/bin/env python3
-"""Inserts one document through `ferretd pipe` and finds it again. The program's path is the one argument."""
+"""Inserts documents through `ferretd pipe` and finds them again. The program's path is the one argument."""
 
 import struct
 import subprocess
@@ -47,11 +47,14 @@ def read(bytes_, place=0):
     return document, end + 1
 
 
-# ---- messages: OP_MSG with one body
+# ---- messages: OP_MSG with one body, and perhaps a document sequence
 
-def message(number, body):
-    document = spell(body)
-    return struct.pack("<iiiiIB", len(document) + 21, number, 0, 2013, 0, 0) + document
+def message(number, body, sequence=None):
+    sections = b"\0" + spell(body)
+    for name, documents in (sequence or {}).items():
+        inside = name.encode() + b"\0" + b"".join(map(spell, documents))
+        sections += b"\1" + struct.pack("<i", len(inside) + 4) + inside
+    return struct.pack("<iiiiI", len(sections) + 20, number, 0, 2013, 0) + sections
 
 
 def replies(written):
@@ -61,11 +64,11 @@ def replies(written):
         place += struct.unpack_from("<i", written, place)[0]
 
 
-bodies = [
-    {"insert": "people", "documents": [{"_id": 1, "name": "Ada"}], "$db": "town"},
-    {"insert": "people", "documents": [{"_id": 1, "name": "Eve"}], "$db": "town"},
-    {"find": "people", "$db": "town"},
-]
-asked = b"".join(message(number, body) for number, body in enumerate(bodies, 1))
+asked = b"".join([
+    message(1, {"insert": "people", "documents": [{"_id": 1, "name": "Ada"}], "$db": "town"}),
+    message(2, {"insert": "people", "documents": [{"_id": 1, "name": "Eve"}], "$db": "town"}),
+    message(3, {"insert": "people", "$db": "town"}, {"documents": [{"_id": 2, "name": "Eve"}]}),
+    message(4, {"find": "people", "$db": "town"}),
+])
 for reply in replies(subprocess.run([sys.argv[1], "pipe"], input=asked, stdout=subprocess.PIPE, check=True).stdout):
     print(reply)

@@ -22,7 +22,7 @@ Stands space cs (Some place) =
     (place < length cs)
     × ((d : Collection) → (collection_of space cs ≡ Some (get_or cs place d))
     × ((doc : List (Pair Value))
-      → with_last space doc cs ≡ set cs place (record (get_or cs place d) { docs = (get_or cs place d).docs ++ doc ∷ [] })))
+    → with_last space doc cs ≡ set cs place (record (get_or cs place d) { docs = (get_or cs place d).docs ++ doc ∷ [] })))
 
 -- a document went last into a collection, or was refused
 abbrev pub Adds : ℕ → List (Pair Value) → Collection → Collection → OpReply → Type 0

@@ -24,9 +24,10 @@ abbrev pub Gives : {X Y : Type 0} → (X → Y) → Result X ReadRefused → Res
 Gives view (Ok value) found = found ≡ Ok (view value)
 Gives view (Err refused) found = Fails refused found
 
+-- a step that may find a fault, and the next one on what it found
 infixl 10 ◌>>=◌
-abbrev pub ◌>>=◌ : {A B : Type 0} → Result A ℕ → (A → Result B ℕ) → Result B ℕ
-(Err place) >>= next = Err place
+abbrev pub ◌>>=◌ : {A B E : Type 0} → Result A E → (A → Result B E) → Result B E
+(Err fault) >>= next = Err fault
 (Ok found) >>= next = next found
 
 -- four bytes as a number, and the bytes after them

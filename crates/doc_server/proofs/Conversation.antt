@@ -1,6 +1,6 @@
 -- One step of a conversation.
 use Rattle.std.proofs.Common.{◌≡◌, ℕ, ◌+◌, ◌≤◌, ◌<◌, ◌^◌, List, [], ◌∷◌, ◌++◌, length, take, drop, refl, ap, arith, sym, subst, ◌∙◌, length-append, length-drop}
-use Rattle.std.proofs.lemmas.List.{take-append-drop, drop-drop}
+use Rattle.std.proofs.lemmas.List.{append-nil, take-append-drop, drop-drop}
 use Rattle.std.proofs.Math.Seq.{take-append-add}
 use Rattle.outside.specs.Told.{Grows}
 use Rattle.op_msg.specs.declared.message.Message.{Message}
@@ -16,7 +16,7 @@ use Rattle.doc_model.specs.Run.{run}
 use Rattle.doc_server.specs.Script.{Executed, messages, moments, ops_of, numbered, ops_from, IsSound, bytes_of}
 use Rattle.doc_server.specs.Talk.{Scene, Wrote, Timed, Ends, Talk, Talks}
 use Rattle.doc_server.specs.Steps.{Dealt, Stops, Moves}
-use Rattle.doc_server.proofs.Growth.{append-nil, grows-none, grows-on, shrinks-none, shrinks-on}
+use Rattle.doc_server.proofs.Growth.{grows-none, grows-on, shrinks-none, shrinks-on}
 use Rattle.doc_server.proofs.Scripts.{messages-append, moments-append, sound-append, bytes_from-last, ran-last}
 
 -- a conversation that goes on, of which so many bytes came

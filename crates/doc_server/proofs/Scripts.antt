@@ -1,11 +1,11 @@
 -- A script, one message longer.
 use Rattle.std.proofs.Common.{◌≡◌, ℕ, ◌+◌, List, [], ◌∷◌, ◌++◌, length, refl, ap, arith, sym, subst, ◌∙◌, append_assoc, zero-add}
+use Rattle.std.proofs.lemmas.List.{append-nil}
 use Rattle.doc_model.specs.Run.{run}
 use Rattle.doc_model.specs.Store.{Store}
 use Rattle.doc_model.proofs.Runs.{run-append}
 use Rattle.doc_server.specs.Answers.{answer}
 use Rattle.doc_server.specs.Script.{Executed, messages, moments, ops_of, numbered, ops_from, IsSound, bytes_from}
-use Rattle.doc_server.proofs.Growth.{append-nil}
 
 pub messages-append : (ts us : List Executed) → messages (ts ++ us) ≡ messages ts ++ messages us
 messages-append [] us = refl

@@ -1,6 +1,7 @@
 -- A connection over a fresh link, and its whole input.
 use Rattle.std.proofs.Common.{◌≡◌, ℕ, ◌⊎◌, inl, inr, List, [], ◌++◌, take, sym, ap, subst, ◌∙◌}
 use Rattle.std.specs.Prelude.{Option, None, Some}
+use Rattle.std.proofs.lemmas.List.{append-nil}
 use Rattle.outside.specs.Told.{Tells, Grows, Shrinks}
 use Rattle.doc_server.specs.declared.why.Why.{Why}
 use Rattle.doc_server.specs.declared.why.Why.TheVariants.{Closed, Truncated, BadFrame, ReadFault, WriteFault, Long, NoMemory}
@@ -12,7 +13,6 @@ use Rattle.doc_model.specs.Run.{run}
 use Rattle.doc_server.specs.Script.{Executed, messages, moments, ops_from, bytes_of}
 use Rattle.doc_server.specs.Talk.{Scene, Wrote, Timed, Ends, AtEnd, Talks}
 use Rattle.doc_server.specs.Program.{End, seen, TellsAnswers, TellsMoments, Spoke, Spoken, IsCutOff, Shows, Answered, AnswersAll}
-use Rattle.doc_server.proofs.Growth.{append-nil}
 
 -- what came after nothing is all
 tells-all : (old new : Option (List ℕ)) (all : List ℕ) → Tells old [] → Grows old new all → Tells new all

@@ -1,16 +1,18 @@
 -- The sections of a message: what is read of them is spelled so, and what is spelled so is read.
 use Rattle.std.proofs.Common.{◌≡◌, ℕ, ℤ, ◌+◌, ◌-◌, ◌≤◌, List, [], ◌∷◌, ◌++◌, length, refl, sym, ap, subst, ◌∙◌, arith, length-append}
-use Rattle.std.specs.Prelude.{Option, Ok}
+use Rattle.std.specs.Prelude.{Option, Result, Ok}
 use Rattle.std.specs.Option.{option_or}
+use Rattle.std.proofs.lemmas.List.{append-nil}
 use Rattle.bson_values.specs.declared.pairs.Pair.{Pair}
 use Rattle.bson_values.specs.declared.value.Value.{Value}
 use Rattle.bson_wire.specs.declared.foreign.Foreign.{Foreign}
 use Rattle.bson_wire.proofs.Bytes.{IsBytes, IsBytes-rest}
+use Rattle.bson_wire.proofs.Steps.{same_Ok, bind_ok}
+use Rattle.bson_wire.specs.Reading.{◌>>=◌}
 use Rattle.op_msg.specs.declared.message.Sequence.{Sequence}
 use Rattle.op_msg.specs.declared.message.Message.{Message}
 use Rattle.op_msg.specs.Stream.{IsDocument, AreInOrder, IsSequence, AreSections}
-use Rattle.op_msg.specs.Reading.{Found, ◌>>=◌, sequences_at, body_at, end_at, content_at}
-use Rattle.op_msg.proofs.Steps.{same-found, bind-found, append-nil}
+use Rattle.op_msg.specs.Reading.{Fault, Found, sequences_at, body_at, end_at, content_at}
 use Rattle.op_msg.proofs.Parts.{sequences-take, sequences-again, body-takes, body-again, end-takes}
 
 -- what is behind a section, and where it stands
@@ -63,11 +65,11 @@ pub record Steps (request : ℤ) (end : ℕ) (bytes : List ℕ) (m : Message) : 
 steps : (request : ℤ) (end : ℕ) (bytes : List ℕ) (m : Message) → content_at request end bytes ≡ Ok m → Steps request end bytes m
 unfolding content_at
 steps request end bytes m is =
-    let front = bind-found (sequences_at end bytes) (λ before. body_at end before.2 >>= λ body. sequences_at end body.2 >>= λ after. end_at end after.2 >>= λ none. Ok (record { request = request; body = body.0; sequences = before.0 ++ after.0; foreign = option_or before.1 (option_or body.1 after.1) })) m is in
-    let body = bind-found (body_at end front.0.2) (λ body. sequences_at end body.2 >>= λ after. end_at end after.2 >>= λ none. Ok (record { request = request; body = body.0; sequences = front.0.0 ++ after.0; foreign = option_or front.0.1 (option_or body.1 after.1) })) m front.2 in
-    let back = bind-found (sequences_at end body.0.2) (λ after. end_at end after.2 >>= λ none. Ok (record { request = request; body = body.0.0; sequences = front.0.0 ++ after.0; foreign = option_or front.0.1 (option_or body.0.1 after.1) })) m body.2 in
-    let ended = bind-found (end_at end back.0.2) (λ none. Ok (record { request = request; body = body.0.0; sequences = front.0.0 ++ back.0.0; foreign = option_or front.0.1 (option_or body.0.1 back.0.1) })) m back.2 in
-    record { front = front.0; body = body.0; back = back.0; nothing = ended.0; front_read = front.1; body_read = body.1; back_read = back.1; end_read = ended.1; made = same-found (record { request = request; body = body.0.0; sequences = front.0.0 ++ back.0.0; foreign = option_or front.0.1 (option_or body.0.1 back.0.1) }) m ended.2 }
+    let front = bind_ok (sequences_at end bytes) (λ before. body_at end before.2 >>= λ body. sequences_at end body.2 >>= λ after. end_at end after.2 >>= λ none. Ok (record { request = request; body = body.0; sequences = before.0 ++ after.0; foreign = option_or before.1 (option_or body.1 after.1) })) m is in
+    let body = bind_ok (body_at end front.0.2) (λ body. sequences_at end body.2 >>= λ after. end_at end after.2 >>= λ none. Ok (record { request = request; body = body.0; sequences = front.0.0 ++ after.0; foreign = option_or front.0.1 (option_or body.1 after.1) })) m front.2 in
+    let back = bind_ok (sequences_at end body.0.2) (λ after. end_at end after.2 >>= λ none. Ok (record { request = request; body = body.0.0; sequences = front.0.0 ++ after.0; foreign = option_or front.0.1 (option_or body.0.1 after.1) })) m body.2 in
+    let ended = bind_ok (end_at end back.0.2) (λ none. Ok (record { request = request; body = body.0.0; sequences = front.0.0 ++ back.0.0; foreign = option_or front.0.1 (option_or body.0.1 back.0.1) })) m back.2 in
+    record { front = front.0; body = body.0; back = back.0; nothing = ended.0; front_read = front.1; body_read = body.1; back_read = back.1; end_read = ended.1; made = same_Ok (record { request = request; body = body.0.0; sequences = front.0.0 ++ back.0.0; foreign = option_or front.0.1 (option_or body.0.1 back.0.1) }) m ended.2 }
 
 -- steps that found something found sections
 steps-take : (request : ℤ) (end : ℕ) (bytes : List ℕ) (m : Message) → IsBytes bytes → length bytes ≤ end → Steps request end bytes m → AreSections (end - length bytes) bytes m
@@ -86,8 +88,22 @@ content-takes request end bytes m fits near is =
     let read = steps request end bytes m is in
     (ap (λ (m : Message). m.request) (sym read.made), steps-take request end bytes m fits near read)
 
+-- what the four steps find is the message
+content-read : (request : ℤ) (end : ℕ) (bytes : List ℕ) (front back : Found (List Sequence)) (body : Found (List (Pair Value)))
+    → sequences_at end bytes ≡ Ok front → body_at end front.2 ≡ Ok body → sequences_at end body.2 ≡ Ok back → end_at end back.2 ≡ Ok tt
+    → content_at request end bytes ≡ Ok (record { request = request; body = body.0; sequences = front.0 ++ back.0; foreign = option_or front.1 (option_or body.1 back.1) })
+unfolding content_at
+content-read request end bytes front back body first second third nothing = rw (first, second, third, nothing) refl
+
+-- a message with parts that are its own
+same-parts : (m : Message) (sequences : List Sequence) (foreign : Option Foreign) → m.sequences ≡ sequences → m.foreign ≡ foreign
+    → ◌≡◌ {A = Result Message Fault} (Ok (record { request = m.request; body = m.body; sequences = sequences; foreign = foreign })) (Ok m)
+same-parts m sequences foreign sequences_is foreign_is =
+    ap (λ (s : List Sequence). Ok (record { request = m.request; body = m.body; sequences = s; foreign = foreign })) (sym sequences_is)
+    ∙ ap (λ (f : Option Foreign). Ok (record { request = m.request; body = m.body; sequences = m.sequences; foreign = f })) (sym foreign_is)
+
 pub content-again : (end place : ℕ) (bytes : List ℕ) (it : Message) → end ≤ 48000000 → AreSections place bytes it → place + length bytes ≡ end → content_at it.request end bytes ≡ Ok it
-unfolding content_at end_at
+unfolding end_at
 content-again end place bytes it few is at =
     let rest : List ℕ = 0 ∷ is.document ++ is.after in
     let lengths : length bytes ≡ length is.before + length rest = ap length is.whole ∙ length-append is.before rest in
@@ -97,6 +113,5 @@ content-again end place bytes it few is at =
     let nothing = append-nil is.after in
     let back = ap (sequences_at end) (sym nothing)
     ∙ sequences-again end few is.back (place + length is.before + 1 + length is.document) is.after [] is.behind is.back_is (omega (arith, ap length nothing, at, lengths, lengths-rest)) refl in
-    ap (content_at it.request end) is.whole ∙ rw (front, body, back)
-    (ap (λ (s : List Sequence). Ok (record { request = it.request; body = it.body; sequences = s; foreign = option_or is.ahead (option_or is.own is.behind) })) (sym is.sequences)
-    ∙ ap (λ (f : Option Foreign). Ok (record { request = it.request; body = it.body; sequences = it.sequences; foreign = f })) (sym is.foreign))
+    content-read it.request end bytes (is.front, is.ahead, rest) (is.back, is.behind, []) (it.body, is.own, is.after) (ap (sequences_at end) is.whole ∙ front) body back refl
+    ∙ same-parts it (is.front ++ is.back) (option_or is.ahead (option_or is.own is.behind)) is.sequences is.foreign

@@ -3,13 +3,13 @@ use Rattle.std.proofs.Common.{◌≡◌, ◌⊎◌, inl, inr, ℕ, ◌≤◌, Li
 use Rattle.std.specs.Prelude.{Option, None, Some, Result, Ok, Err}
 use Rattle.std.specs.List.{flat_map}
 use Rattle.std.proofs.lemmas.Bool.{cases_lt, le-ltb}
-use Rattle.std.proofs.lemmas.List.{drop_at}
+use Rattle.std.proofs.lemmas.List.{append-nil, drop_at}
 use Rattle.bson_wire.proofs.Bytes.{IsBytes}
+use Rattle.bson_wire.proofs.Steps.{same_Ok}
 use Rattle.op_msg.specs.declared.message.Message.{Message}
 use Rattle.op_msg.specs.Stream.{message, in_order, frames, BeginsNone, TakenFrom}
 use Rattle.op_msg.specs.Reading.{Fault, stated, early, short, message_at, fault}
 use Rattle.op_msg.specs.Front.{Begins}
-use Rattle.op_msg.proofs.Steps.{append-nil, same-found}
 use Rattle.op_msg.proofs.Messages.{message-again}
 use Rattle.op_msg.proofs.Fronts.{message-front, early-none, front-begins}
 
@@ -18,7 +18,7 @@ front-one : (bytes one behind other behind' : List ℕ) (m n : Message) → byte
 front-one bytes one behind other behind' m n cut cut' is is' =
     let same : one ≡ other = message-front bytes one behind m cut is ∙ sym (message-front bytes other behind' n cut' is') in
     let rest : behind ≡ behind' = sym (drop_at one behind (length one) refl) ∙ ap (drop (length one)) (sym cut ∙ cut') ∙ drop_at other behind' (length one) (ap length (sym same)) in
-    (same-found m n (sym (message-again one m is) ∙ ap message_at same ∙ message-again other n is'), rest)
+    (same_Ok m n (sym (message-again one m is) ∙ ap message_at same ∙ message-again other n is'), rest)
 
 frames-one : (bytes : List ℕ) (ms ns : List Message) (rest rest' : List ℕ) → in_order bytes ms rest → BeginsNone rest → in_order bytes ns rest' → BeginsNone rest' → (ms ≡ ns) × (rest ≡ rest')
 frames-one bytes [] [] rest rest' one none other none' = (refl, sym one ∙ other)

@@ -2,14 +2,17 @@
 use Rattle.std.proofs.Common.{◌≡◌, inl, inr, ℕ, zero, suc, ◌+◌, ◌-◌, ◌<◌, ◌≤◌, Bool, true, false, List, [], ◌∷◌, ◌++◌, length, refl, sym, ap, subst, ◌∙◌, append_assoc, arith, length-append}
 use Rattle.std.specs.Prelude.{Option, None, Some, Result, Ok, Err}
 use Rattle.std.specs.Option.{option_or}
+use Rattle.std.proofs.lemmas.List.{append-nil}
 use Rattle.bson_wire.specs.declared.foreign.Foreign.{Foreign}
 use Rattle.bson_wire.proofs.Bytes.{IsBytes, IsBytes-rest}
+use Rattle.bson_wire.proofs.Steps.{bind_ok, at_found}
+use Rattle.bson_wire.specs.Reading.{◌>>=◌}
 use Rattle.op_msg.specs.Stream.{AreInOrder}
-use Rattle.op_msg.specs.Reading.{Fault, Found, ◌>>=◌, many_at}
+use Rattle.op_msg.specs.Reading.{Fault, Found, many_at}
 use Rattle.op_msg.specs.Front.{Fails}
 use Rattle.op_msg.specs.declared.refused.Refused.{Refused}
 use Rattle.op_msg.specs.declared.refused.Refused.TheVariants as refused
-use Rattle.op_msg.proofs.Steps.{bind-found, branch, at-found, append-nil}
+use Rattle.op_msg.proofs.Steps.{branch}
 
 or-none : (foreign : Option Foreign) → option_or foreign None ≡ foreign
 or-none None = refl
@@ -48,22 +51,22 @@ module _ {A : Type 0} (goes_on : List ℕ → Bool) (one : List ℕ → Result (
         let place : end - length first.2 ≡ end - length bytes + length piece = omega (arith, near, ap length cut, length-append piece first.2) in
         let behind = subst (λ (n : ℕ). AreInOrder Is n rest.0 others.0 others.1) place rest.2 in
         let whole : bytes ≡ (piece ++ rest.0) ++ others.2 = cut ∙ ap (λ (b : List ℕ). piece ++ b) rest.1 ∙ sym (append_assoc piece rest.0 others.2) in
-        at-found (Ends bytes) (first.0 ∷ others.0, option_or first.1 others.1, others.2) found made
+        at_found (Ends bytes) (first.0 ∷ others.0, option_or first.1 others.1, others.2) found made
         (piece ++ rest.0, whole, (piece, rest.0, first.1, others.1, refl, is, behind, refl), rest.3)
 
     pub many-takes : OneTaken → ((bytes : List ℕ) → length bytes ≡ 0 → goes_on bytes ≡ false) → (most : ℕ) (bytes : List ℕ) (found : Found (List A)) → IsBytes bytes → length bytes ≤ end → length bytes ≤ most → many_at goes_on one most bytes ≡ Ok found → Ends bytes found
     unfolding many_at
-    many-takes taken stops zero bytes found fits near few is = at-found (Ends bytes) ([], None, bytes) found is ([], refl, (refl, refl), stops bytes (omega arith))
+    many-takes taken stops zero bytes found fits near few is = at_found (Ends bytes) ([], None, bytes) found is ([], refl, (refl, refl), stops bytes (omega arith))
     many-takes taken stops (suc most) bytes found fits near few is =
         elim (branch (goes_on bytes) (one bytes >>= λ it. many_at goes_on one most it.2 >>= λ others. Ok (it.0 ∷ others.0, option_or it.1 others.1, others.2)) (Ok ([], None, bytes)) found is) [
           | inl goes ↦
-              let first = bind-found (one bytes) (λ it. many_at goes_on one most it.2 >>= λ others. Ok (it.0 ∷ others.0, option_or it.1 others.1, others.2)) found goes.1 in
-              let others = bind-found (many_at goes_on one most first.0.2) (λ others. Ok (first.0.0 ∷ others.0, option_or first.0.1 others.1, others.2)) found first.2 in
+              let first = bind_ok (one bytes) (λ it. many_at goes_on one most it.2 >>= λ others. Ok (it.0 ∷ others.0, option_or it.1 others.1, others.2)) found goes.1 in
+              let others = bind_ok (many_at goes_on one most first.0.2) (λ others. Ok (first.0.0 ∷ others.0, option_or first.0.1 others.1, others.2)) found first.2 in
               let it = taken bytes first.0 fits near goes.0 first.1 in
               let lengths : length bytes ≡ length it.0 + length first.0.2 = ap length it.1 ∙ length-append it.0 first.0.2 in
               let rest = many-takes taken stops most first.0.2 others.0 (IsBytes-rest it.0 first.0.2 bytes it.1 fits) (omega (arith, lengths, near)) (omega (arith, lengths, few, it.3)) others.1 in
               ends-more bytes it.0 first.0 others.0 found near it.1 it.2 rest others.2
-          | inr none ↦ at-found (Ends bytes) ([], None, bytes) found none.1 ([], refl, (refl, refl), none.0)
+          | inr none ↦ at_found (Ends bytes) ([], None, bytes) found none.1 ([], refl, (refl, refl), none.0)
         ]
 
     pub many-again : OneAgain → (all : List A) (most place : ℕ) (piece rest : List ℕ) (foreign : Option Foreign) → AreInOrder Is place piece all foreign → place + length (piece ++ rest) ≡ end → goes_on rest ≡ false → length piece ≤ most

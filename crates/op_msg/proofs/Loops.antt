@@ -3,6 +3,7 @@ use Rattle.std.proofs.Common.{◌≡◌, ◌≢◌, ℕ, ◌-◌, ◌<◌, ◌�
 use Rattle.std.specs.Prelude.{Option, None, Result, Ok}
 use Rattle.std.specs.Option.{option_or}
 use Rattle.std.proofs.lemmas.Bool.{lt-ltb, le-ltb, ne_eqb}
+use Rattle.std.proofs.lemmas.List.{append-nil}
 use Rattle.bson_wire.specs.declared.foreign.Foreign.{Foreign}
 use Rattle.bson_wire.proofs.Values.{Doc}
 use Rattle.op_msg.specs.declared.message.Sequence.{Sequence}
@@ -10,7 +11,7 @@ use Rattle.op_msg.specs.declared.refused.Refused.{Refused}
 use Rattle.op_msg.specs.declared.refused.Refused.TheVariants as refused
 use Rattle.op_msg.specs.Reading.{Fault, Found, document_in, documents_at, sequence_at, sequences_at, behind_those}
 use Rattle.op_msg.specs.Front.{Fails}
-use Rattle.op_msg.proofs.Steps.{append-nil, empty}
+use Rattle.op_msg.proofs.Steps.{empty}
 use Rattle.op_msg.proofs.InOrder.{Goes, goes-start, goes-end, goes-fails, goes-more}
 
 -- ---- documents

@@ -9,11 +9,11 @@ use Rattle.byteorder.specs.Endian.{little_number}
 use Rattle.byteorder.specs.Numbers.{little_from-lt, little_number-reads_back}
 use Rattle.bson_wire.specs.Spelling.{int32}
 use Rattle.bson_wire.proofs.Bytes.{IsBytes, IsBytes-rest}
+use Rattle.bson_wire.proofs.Steps.{same_Ok, bind_ok, unless_ok}
 use Rattle.op_msg.specs.declared.message.Message.{Message}
 use Rattle.op_msg.specs.declared.message.BadKind.TheVariants.{Flags, Checksum, Section}
 use Rattle.op_msg.specs.Stream.{InRange, AreSections, message}
 use Rattle.op_msg.specs.Reading.{Fault, stated, sections_at, content_at, message_at}
-use Rattle.op_msg.proofs.Steps.{same-found, bind-found, unless}
 use Rattle.op_msg.proofs.Parts.{cut-four}
 use Rattle.op_msg.proofs.Contents.{content-takes, content-again}
 
@@ -99,11 +99,11 @@ unfolding sections_at
 sections-are bytes sections is =
     let low = little_number 2 (drop 16 bytes) in
     let behind : Result (List ℕ) Fault = cond (eqb low 1) (Err (Checksum, 16)) (Ok (drop 20 bytes)) in
-    let long = unless (ltb (length bytes) 20) (Section, 16) (cond (ltb 1 low) (Err (Flags, 16)) behind) sections is in
-    let few = unless (ltb 1 low) (Flags, 16) behind sections long.1 in
-    let none = unless (eqb low 1) (Checksum, 16) (Ok (drop 20 bytes)) sections few.1 in
+    let long = unless_ok (ltb (length bytes) 20) (Section, 16) (cond (ltb 1 low) (Err (Flags, 16)) behind) sections is in
+    let few = unless_ok (ltb 1 low) (Flags, 16) behind sections long.1 in
+    let none = unless_ok (eqb low 1) (Checksum, 16) (Ok (drop 20 bytes)) sections few.1 in
     let at_most : low ≤ 1 = ltb-false _ _ few.0 in
-    (ltb-false _ _ long.0, omega (arith, at_most, eqb-false _ _ none.0), same-found _ _ none.1)
+    (ltb-false _ _ long.0, omega (arith, at_most, eqb-false _ _ none.0), same_Ok _ _ none.1)
 
 -- what a message has at its fixed places
 record Fixed (bytes : List ℕ) (m : Message) : Type 0 where
@@ -116,7 +116,7 @@ message-fixed : (bytes : List ℕ) (m : Message) → IsBytes bytes → message_a
 unfolding message_at
 message-fixed bytes m fits is =
     let request = cast_signed w32 (little_number 4 (drop 4 bytes)) in
-    let found = bind-found (sections_at bytes) (λ sections. content_at request (length bytes) sections) m is in
+    let found = bind_ok (sections_at bytes) (λ sections. content_at request (length bytes) sections) m is in
     let places = sections-are bytes found.0 found.1 in
     let content : content_at request (length bytes) (drop 20 bytes) ≡ Ok m = ap (content_at request (length bytes)) places.2 ∙ found.2 in
     let lengths = length-drop 20 bytes in

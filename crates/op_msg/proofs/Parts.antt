@@ -2,23 +2,24 @@
 use Rattle.std.proofs.Common.{◌≡◌, inl, inr, ℕ, ◌+◌, ◌-◌, ◌^◌, ◌<◌, ◌≤◌, Bool, true, false, ltb, eqb, cond, List, [], ◌∷◌, ◌++◌, length, get_or, take, drop, refl, sym, ap, subst, ◌∙◌, append_assoc, arith, length-append, length-drop}
 use Rattle.std.specs.Prelude.{Option, Result, Ok, Err}
 use Rattle.std.proofs.lemmas.Bool.{ltb-false, le-ltb, lt-ltb, eqb-true, ne_eqb}
-use Rattle.std.proofs.lemmas.List.{take-append-drop, drop_more, take_at, drop_at, length-take-le}
+use Rattle.std.proofs.lemmas.List.{append-nil, take-append-drop, drop_more, take_at, drop_at, length-take-le}
 use Rattle.byteorder.specs.Endian.{little_number}
 use Rattle.byteorder.specs.Numbers.{little_from-append, little_number-reads_back, length-bytes_low_first}
 use Rattle.bson_wire.specs.Spelling.{int32, cstring}
 use Rattle.bson_wire.specs.declared.foreign.Foreign.{Foreign}
 use Rattle.bson_wire.specs.Grammar.{IsName}
-use Rattle.bson_wire.specs.Reading.{document_at, name_at, number_at, first}
+use Rattle.bson_wire.specs.Reading.{◌>>=◌, document_at, name_at, number_at, first}
 use Rattle.bson_wire.proofs.Bytes.{IsBytes, IsBytes-front, IsBytes-rest}
 use Rattle.bson_wire.proofs.Documents.{document_takes, document_again}
 use Rattle.bson_wire.proofs.Names.{name_takes, name_again}
 use Rattle.bson_wire.proofs.Numbers.{number_takes}
 use Rattle.bson_wire.proofs.Values.{Doc}
+use Rattle.bson_wire.proofs.Steps.{same_Ok, bind_ok, unless_ok, when_ok, at_found}
 use Rattle.op_msg.specs.declared.message.Sequence.{Sequence}
 use Rattle.op_msg.specs.declared.message.BadKind.TheVariants.{Section, Body}
 use Rattle.op_msg.specs.Stream.{moved, IsDocument, AreInOrder, IsSequence}
-use Rattle.op_msg.specs.Reading.{Fault, Found, ◌>>=◌, many_at, in_message, document_in, documents_at, sized_at, identifier_at, sequence_at, sequences_at, body_at, end_at}
-use Rattle.op_msg.proofs.Steps.{same-found, bind-found, unless, when, branch, at-found, append-nil, empty}
+use Rattle.op_msg.specs.Reading.{Fault, Found, many_at, in_message, document_in, documents_at, sized_at, identifier_at, sequence_at, sequences_at, body_at, end_at}
+use Rattle.op_msg.proofs.Steps.{branch, empty}
 use Rattle.op_msg.proofs.Documents.{spelled-long}
 use Rattle.op_msg.proofs.InOrder.{many-takes, many-again}
 
@@ -47,14 +48,14 @@ read-takes : (place : ℕ) (bytes : List ℕ) (found : Found Doc) (read : Result
     → (piece : List ℕ) × (bytes ≡ piece ++ found.2) × IsDocument place piece found.0 found.1
 read-takes place bytes found (Ok it) fits is made =
     let taken = document_takes bytes it fits is in
-    at-found (λ (found : Found Doc). (piece : List ℕ) × (bytes ≡ piece ++ found.2) × IsDocument place piece found.0 found.1) (it.0, moved place (first it.1), it.2) found made
+    at_found (λ (found : Found Doc). (piece : List ℕ) × (bytes ≡ piece ++ found.2) × IsDocument place piece found.0 found.1) (it.0, moved place (first it.1), it.2) found made
     (taken.0, taken.1, (it.1, taken.2, refl))
 read-takes place bytes found (Err at) fits is made = absurd cc
 
 pub document-takes : (section place : ℕ) (bytes : List ℕ) (found : Found Doc) → IsBytes bytes → document_in section place bytes ≡ Ok found → (piece : List ℕ) × (bytes ≡ piece ++ found.2) × IsDocument place piece found.0 found.1
 unfolding document_in
 document-takes section place bytes found fits is =
-    let read = unless (ltb (length bytes) 4) (Section, section) (in_message place (document_at 128 (length bytes) bytes)) found is in
+    let read = unless_ok (ltb (length bytes) 4) (Section, section) (in_message place (document_at 128 (length bytes) bytes)) found is in
     read-takes place bytes found (document_at 128 (length bytes) bytes) fits refl read.1
 
 pub document-again : (section place : ℕ) (piece rest : List ℕ) (doc : Doc) (own : Option Foreign) → IsDocument place piece doc own → document_in section place (piece ++ rest) ≡ Ok (doc, own, rest)
@@ -112,16 +113,16 @@ unfolding sized_at
 sized-takes section bytes found fits is =
     let size = little_number 4 bytes in
     let value : List ℕ × List ℕ = (drop 4 (take size bytes), drop size bytes) in
-    let four = unless (ltb (length bytes) 4) (Section, section) (cond (ltb size 5) (Err (Section, section)) (cond (ltb (length bytes) size) (Err (Section, section)) (Ok value))) found is in
-    let least = unless (ltb size 5) (Section, section) (cond (ltb (length bytes) size) (Err (Section, section)) (Ok value)) found four.1 in
-    let most = unless (ltb (length bytes) size) (Section, section) (Ok value) found least.1 in
+    let four = unless_ok (ltb (length bytes) 4) (Section, section) (cond (ltb size 5) (Err (Section, section)) (cond (ltb (length bytes) size) (Err (Section, section)) (Ok value))) found is in
+    let least = unless_ok (ltb size 5) (Section, section) (cond (ltb (length bytes) size) (Err (Section, section)) (Ok value)) found four.1 in
+    let most = unless_ok (ltb (length bytes) size) (Section, section) (Ok value) found least.1 in
     let front = take size bytes in
     let whole : bytes ≡ front ++ drop size bytes = sym (take-append-drop size bytes) in
     let long : length front ≡ size = length-take-le size bytes (ltb-false _ _ most.0) in
     let five : 5 ≤ size = ltb-false _ _ least.0 in
     let same : little_number 4 front ≡ size = sym (ap (little_number 4) whole ∙ little_from-append 4 front (drop size bytes) (omega (arith, long, five))) in
     let cut : front ≡ int32 size ++ drop 4 front = cut-four front (IsBytes-front front (drop size bytes) bytes whole fits) (omega (arith, long, five)) ∙ ap (λ (n : ℕ). int32 n ++ drop 4 front) same in
-    at-found (Sized bytes) value found most.1
+    at_found (Sized bytes) value found most.1
     (record { size = size; whole = whole ∙ ap (λ (b : List ℕ). b ++ drop size bytes) cut; counted = omega (arith, length-drop 4 front, long, five) })
 
 sized-again : (section size : ℕ) (inside rest : List ℕ) → length inside + 4 ≡ size → 5 ≤ size → size < 2 ^ 32 → sized_at section (int32 size ++ inside ++ rest) ≡ Ok (inside, rest)
@@ -141,7 +142,7 @@ sized-again section size inside rest counted five below =
 -- ---- sequences
 
 identifier-takes : (section : ℕ) (read : Result (List ℕ × List ℕ) ℕ) (found : List ℕ × List ℕ) → identifier_at section read ≡ Ok found → read ≡ Ok found
-identifier-takes section (Ok it) found is = ap (λ (it : List ℕ × List ℕ). Ok it) (same-found it found is)
+identifier-takes section (Ok it) found is = ap (λ (it : List ℕ × List ℕ). Ok it) (same_Ok it found is)
 identifier-takes section (Err place) found is = absurd cc
 
 -- the parts of a section of kind 1, as they were read
@@ -158,16 +159,16 @@ sequence-is end section bytes name documents found part docs near here sized cut
     let counted : length (1 ∷ inside) - 1 ≡ sized.size = omega (arith, long) in
     let whole : 1 ∷ inside ≡ 1 ∷ int32 (length (1 ∷ inside) - 1) ++ cstring name ++ documents =
     ap (λ (b : List ℕ). 1 ∷ int32 sized.size ++ b) cut ∙ sym (append_assoc (1 ∷ int32 sized.size) (cstring name) documents) ∙ ap (λ (n : ℕ). 1 ∷ int32 n ++ cstring name ++ documents) (sym counted) in
-    at-found (λ (found : Found Sequence). (piece : List ℕ) × (1 ∷ bytes ≡ piece ++ found.2) × IsSequence section piece found.0 found.1 × (0 < length piece)) (record { name = name; docs = docs.0 }, docs.1, part.1) found made
+    at_found (λ (found : Found Sequence). (piece : List ℕ) × (1 ∷ bytes ≡ piece ++ found.2) × IsSequence section piece found.0 found.1 × (0 < length piece)) (record { name = name; docs = docs.0 }, docs.1, part.1) found made
     (1 ∷ inside, ap (λ (b : List ℕ). 1 ∷ b) sized.whole, record { documents = documents; whole = whole; name = named; docs = subst (λ (n : ℕ). AreInOrder IsDocument n documents docs.0 docs.1) place are }, omega arith)
 
 sequence-takes : (end section : ℕ) (bytes : List ℕ) (found : Found Sequence) → IsBytes bytes → length bytes + 1 ≤ end → section ≡ end - (length bytes + 1) → sequence_at end section bytes ≡ Ok found
     → (piece : List ℕ) × (1 ∷ bytes ≡ piece ++ found.2) × IsSequence section piece found.0 found.1 × (0 < length piece)
 unfolding sequence_at
 sequence-takes end section bytes found fits near here is =
-    let part = bind-found (sized_at section bytes) (λ part. identifier_at section (name_at section part.0) >>= λ name. documents_at (end - length part.1) section name.1 >>= λ docs. Ok (record { name = name.0; docs = docs.0 }, docs.1, part.1)) found is in
-    let name = bind-found (identifier_at section (name_at section part.0.0)) (λ name. documents_at (end - length part.0.1) section name.1 >>= λ docs. Ok (record { name = name.0; docs = docs.0 }, docs.1, part.0.1)) found part.2 in
-    let docs = bind-found (documents_at (end - length part.0.1) section name.0.1) (λ docs. Ok (record { name = name.0.0; docs = docs.0 }, docs.1, part.0.1)) found name.2 in
+    let part = bind_ok (sized_at section bytes) (λ part. identifier_at section (name_at section part.0) >>= λ name. documents_at (end - length part.1) section name.1 >>= λ docs. Ok (record { name = name.0; docs = docs.0 }, docs.1, part.1)) found is in
+    let name = bind_ok (identifier_at section (name_at section part.0.0)) (λ name. documents_at (end - length part.0.1) section name.1 >>= λ docs. Ok (record { name = name.0; docs = docs.0 }, docs.1, part.0.1)) found part.2 in
+    let docs = bind_ok (documents_at (end - length part.0.1) section name.0.1) (λ docs. Ok (record { name = name.0.0; docs = docs.0 }, docs.1, part.0.1)) found name.2 in
     let sized = sized-takes section bytes part.0 fits part.1 in
     let cut = name_takes section part.0.0 name.0 (identifier-takes section (name_at section part.0.0) name.0 name.1) in
     let inside : List ℕ = int32 sized.size ++ part.0.0 in
@@ -242,8 +243,8 @@ module _ (end : ℕ) where
   unfolding body_at
   body-takes bytes found fits near is =
       let read = document_in (end - length bytes) (end - length bytes + 1) (drop 1 bytes) in
-      let some = unless (eqb (length bytes) 0) (Body, end) (cond (eqb (get_or bytes 0 0) 0) read (Err (Section, end - length bytes))) found is in
-      let kind = when (eqb (get_or bytes 0 0) 0) (Section, end - length bytes) read found some.1 in
+      let some = unless_ok (eqb (length bytes) 0) (Body, end) (cond (eqb (get_or bytes 0 0) 0) read (Err (Section, end - length bytes))) found is in
+      let kind = when_ok (eqb (get_or bytes 0 0) 0) (Section, end - length bytes) read found some.1 in
       let whole : bytes ≡ 0 ∷ drop 1 bytes = first-byte bytes (some-bytes bytes some.0) ∙ ap (λ (byte : ℕ). byte ∷ drop 1 bytes) (eqb-true _ _ kind.0) in
       let taken = document-takes (end - length bytes) (end - length bytes + 1) (drop 1 bytes) found (IsBytes-rest (0 ∷ []) (drop 1 bytes) bytes whole fits) kind.1 in
       (taken.0, whole ∙ ap (λ (b : List ℕ). 0 ∷ b) taken.1, taken.2)

@@ -6,7 +6,7 @@ use Rattle.byteorder.specs.Endian.{little_number}
 use Rattle.bson_values.specs.declared.pairs.Pair.{Pair}
 use Rattle.bson_values.specs.declared.value.Value.{Value}
 use Rattle.bson_wire.specs.declared.foreign.Foreign.{Foreign}
-use Rattle.bson_wire.specs.Reading.{document_at, name_at, first}
+use Rattle.bson_wire.specs.Reading.{◌>>=◌, document_at, name_at, first}
 use Rattle.op_msg.specs.Stream.{moved}
 use Rattle.op_msg.specs.declared.message.Message.{Message}
 use Rattle.op_msg.specs.declared.message.Sequence.{Sequence}
@@ -42,12 +42,6 @@ sections_at bytes =
     else if nat_lt 1 (little_number 2 (drop 16 bytes)) then Err (Flags, 16)
     else if little_number 2 (drop 16 bytes) == 1 then Err (Checksum, 16)
     else Ok (drop 20 bytes)
-
--- a step, and the next one on what it found
-infixl 10 ◌>>=◌
-abbrev pub ◌>>=◌ : {A B : Type 0} → Result A Fault → (A → Result B Fault) → Result B Fault
-(Err fault) >>= next = Err fault
-(Ok found) >>= next = next found
 
 -- what was read at the front: a value, the first foreign element in it, and the bytes behind it
 abbrev pub Found : Type 0 → Type 0

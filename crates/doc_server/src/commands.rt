@@ -1,11 +1,11 @@
-use crate::tests::{OK, PING, joined, outcome, piped};
+use crate::tests::{PING, joined, outcome, piped};
 use bson_values::{Bytes, Document, List, NoMemory, Room, Text, Value};
 use bson_wire::write_in;
 use std::alloc::Global;
 use std::test::Fail;
 
 /// `{insert: "c", documents: [{_id: 1}], $db: "t"}` with requestID 7. The number of the `_id` is at 66.
-static INSERT: [u8; 84] = [
+const INSERT: [u8; 84] = [
     0x54, 0, 0, 0, 7, 0, 0, 0, 0, 0, 0, 0, 0xdd, 7, 0, 0, 0, 0, 0, 0, 0, 0x3f, 0, 0, 0, 2, 0x69,
     0x6e, 0x73, 0x65, 0x72, 0x74, 0, 2, 0, 0, 0, 0x63, 0, 4, 0x64, 0x6f, 0x63, 0x75, 0x6d, 0x65,
     0x6e, 0x74, 0x73, 0, 0x16, 0, 0, 0, 3, 0x30, 0, 0xe, 0, 0, 0, 0x10, 0x5f, 0x69, 0x64, 0, 1, 0,
@@ -13,19 +13,25 @@ static INSERT: [u8; 84] = [
 ];
 
 /// `{n: 1, ok: 1}`, the first reply, to requestID 7.
-static INSERTED: [u8; 41] = [
+const INSERTED: [u8; 41] = [
     0x29, 0, 0, 0, 1, 0, 0, 0, 7, 0, 0, 0, 0xdd, 7, 0, 0, 0, 0, 0, 0, 0, 0x14, 0, 0, 0, 0x10, 0x6e,
     0, 1, 0, 0, 0, 0x10, 0x6f, 0x6b, 0, 1, 0, 0, 0, 0,
 ];
 
+/// The same as the second reply.
+const INSERTED_SECOND: [u8; 41] = [
+    0x29, 0, 0, 0, 2, 0, 0, 0, 7, 0, 0, 0, 0xdd, 7, 0, 0, 0, 0, 0, 0, 0, 0x14, 0, 0, 0, 0x10, 0x6e,
+    0, 1, 0, 0, 0, 0x10, 0x6f, 0x6b, 0, 1, 0, 0, 0, 0,
+];
+
 /// `{find: "c", $db: "t"}` with requestID 8.
-static FIND: [u8; 49] = [
+const FIND: [u8; 49] = [
     0x31, 0, 0, 0, 8, 0, 0, 0, 0, 0, 0, 0, 0xdd, 7, 0, 0, 0, 0, 0, 0, 0, 0x1c, 0, 0, 0, 2, 0x66,
     0x69, 0x6e, 0x64, 0, 2, 0, 0, 0, 0x63, 0, 2, 0x24, 0x64, 0x62, 0, 2, 0, 0, 0, 0x74, 0, 0,
 ];
 
 /// `{cursor: {firstBatch: [{_id: 1}], id: 0L, ns: "t.c"}, ok: 1}`, the second reply, to requestID 8.
-static FOUND: [u8; 105] = [
+const FOUND: [u8; 105] = [
     0x69, 0, 0, 0, 2, 0, 0, 0, 8, 0, 0, 0, 0xdd, 7, 0, 0, 0, 0, 0, 0, 0, 0x54, 0, 0, 0, 3, 0x63,
     0x75, 0x72, 0x73, 0x6f, 0x72, 0, 0x3f, 0, 0, 0, 4, 0x66, 0x69, 0x72, 0x73, 0x74, 0x42, 0x61,
     0x74, 0x63, 0x68, 0, 0x16, 0, 0, 0, 3, 0x30, 0, 0xe, 0, 0, 0, 0x10, 0x5f, 0x69, 0x64, 0, 1, 0,
@@ -33,8 +39,59 @@ static FOUND: [u8; 105] = [
     0x2e, 0x63, 0, 0, 0x10, 0x6f, 0x6b, 0, 1, 0, 0, 0, 0,
 ];
 
+/// The same with the `_id` 1L, a long.
+const INSERT_LONG: [u8; 88] = [
+    0x58, 0, 0, 0, 7, 0, 0, 0, 0, 0, 0, 0, 0xdd, 7, 0, 0, 0, 0, 0, 0, 0, 0x43, 0, 0, 0, 2, 0x69,
+    0x6e, 0x73, 0x65, 0x72, 0x74, 0, 2, 0, 0, 0, 0x63, 0, 4, 0x64, 0x6f, 0x63, 0x75, 0x6d, 0x65,
+    0x6e, 0x74, 0x73, 0, 0x1a, 0, 0, 0, 3, 0x30, 0, 0x12, 0, 0, 0, 0x12, 0x5f, 0x69, 0x64, 0, 1, 0,
+    0, 0, 0, 0, 0, 0, 0, 0, 2, 0x24, 0x64, 0x62, 0, 2, 0, 0, 0, 0x74, 0, 0,
+];
+
+/// The same with the `_id` 2L.
+const INSERT_LONG_2: [u8; 88] = [
+    0x58, 0, 0, 0, 7, 0, 0, 0, 0, 0, 0, 0, 0xdd, 7, 0, 0, 0, 0, 0, 0, 0, 0x43, 0, 0, 0, 2, 0x69,
+    0x6e, 0x73, 0x65, 0x72, 0x74, 0, 2, 0, 0, 0, 0x63, 0, 4, 0x64, 0x6f, 0x63, 0x75, 0x6d, 0x65,
+    0x6e, 0x74, 0x73, 0, 0x1a, 0, 0, 0, 3, 0x30, 0, 0x12, 0, 0, 0, 0x12, 0x5f, 0x69, 0x64, 0, 2, 0,
+    0, 0, 0, 0, 0, 0, 0, 0, 2, 0x24, 0x64, 0x62, 0, 2, 0, 0, 0, 0x74, 0, 0,
+];
+
+/// The same with the `_id` `{a: 1}`.
+const INSERT_INTS: [u8; 92] = [
+    0x5c, 0, 0, 0, 7, 0, 0, 0, 0, 0, 0, 0, 0xdd, 7, 0, 0, 0, 0, 0, 0, 0, 0x47, 0, 0, 0, 2, 0x69,
+    0x6e, 0x73, 0x65, 0x72, 0x74, 0, 2, 0, 0, 0, 0x63, 0, 4, 0x64, 0x6f, 0x63, 0x75, 0x6d, 0x65,
+    0x6e, 0x74, 0x73, 0, 0x1e, 0, 0, 0, 3, 0x30, 0, 0x16, 0, 0, 0, 3, 0x5f, 0x69, 0x64, 0, 0xc, 0,
+    0, 0, 0x10, 0x61, 0, 1, 0, 0, 0, 0, 0, 0, 2, 0x24, 0x64, 0x62, 0, 2, 0, 0, 0, 0x74, 0, 0,
+];
+
+/// The same with the `_id` `{a: 1L}`.
+const INSERT_LONGS: [u8; 96] = [
+    0x60, 0, 0, 0, 7, 0, 0, 0, 0, 0, 0, 0, 0xdd, 7, 0, 0, 0, 0, 0, 0, 0, 0x4b, 0, 0, 0, 2, 0x69,
+    0x6e, 0x73, 0x65, 0x72, 0x74, 0, 2, 0, 0, 0, 0x63, 0, 4, 0x64, 0x6f, 0x63, 0x75, 0x6d, 0x65,
+    0x6e, 0x74, 0x73, 0, 0x22, 0, 0, 0, 3, 0x30, 0, 0x1a, 0, 0, 0, 3, 0x5f, 0x69, 0x64, 0, 0x10, 0,
+    0, 0, 0x12, 0x61, 0, 1, 0, 0, 0, 0, 0, 0, 0, 0, 0, 0, 2, 0x24, 0x64, 0x62, 0, 2, 0, 0, 0, 0x74,
+    0, 0,
+];
+
+/// The same with the `_id` `{a: 1, b: 2}`.
+const INSERT_A_B: [u8; 99] = [
+    0x63, 0, 0, 0, 7, 0, 0, 0, 0, 0, 0, 0, 0xdd, 7, 0, 0, 0, 0, 0, 0, 0, 0x4e, 0, 0, 0, 2, 0x69,
+    0x6e, 0x73, 0x65, 0x72, 0x74, 0, 2, 0, 0, 0, 0x63, 0, 4, 0x64, 0x6f, 0x63, 0x75, 0x6d, 0x65,
+    0x6e, 0x74, 0x73, 0, 0x25, 0, 0, 0, 3, 0x30, 0, 0x1d, 0, 0, 0, 3, 0x5f, 0x69, 0x64, 0, 0x13, 0,
+    0, 0, 0x10, 0x61, 0, 1, 0, 0, 0, 0x10, 0x62, 0, 2, 0, 0, 0, 0, 0, 0, 2, 0x24, 0x64, 0x62, 0, 2,
+    0, 0, 0, 0x74, 0, 0,
+];
+
+/// The same with the `_id` `{b: 2, a: 1}`.
+const INSERT_B_A: [u8; 99] = [
+    0x63, 0, 0, 0, 7, 0, 0, 0, 0, 0, 0, 0, 0xdd, 7, 0, 0, 0, 0, 0, 0, 0, 0x4e, 0, 0, 0, 2, 0x69,
+    0x6e, 0x73, 0x65, 0x72, 0x74, 0, 2, 0, 0, 0, 0x63, 0, 4, 0x64, 0x6f, 0x63, 0x75, 0x6d, 0x65,
+    0x6e, 0x74, 0x73, 0, 0x25, 0, 0, 0, 3, 0x30, 0, 0x1d, 0, 0, 0, 3, 0x5f, 0x69, 0x64, 0, 0x13, 0,
+    0, 0, 0x10, 0x62, 0, 2, 0, 0, 0, 0x10, 0x61, 0, 1, 0, 0, 0, 0, 0, 0, 2, 0x24, 0x64, 0x62, 0, 2,
+    0, 0, 0, 0x74, 0, 0,
+];
+
 /// `{insert: "c", documents: [{_id: "1"}], $db: "t"}` with requestID 7.
-static INSERT_TEXT: [u8; 86] = [
+const INSERT_TEXT: [u8; 86] = [
     0x56, 0, 0, 0, 7, 0, 0, 0, 0, 0, 0, 0, 0xdd, 7, 0, 0, 0, 0, 0, 0, 0, 0x41, 0, 0, 0, 2, 0x69,
     0x6e, 0x73, 0x65, 0x72, 0x74, 0, 2, 0, 0, 0, 0x63, 0, 4, 0x64, 0x6f, 0x63, 0x75, 0x6d, 0x65,
     0x6e, 0x74, 0x73, 0, 0x18, 0, 0, 0, 3, 0x30, 0, 0x10, 0, 0, 0, 2, 0x5f, 0x69, 0x64, 0, 2, 0, 0,
@@ -42,7 +99,7 @@ static INSERT_TEXT: [u8; 86] = [
 ];
 
 /// `{n: 0, writeErrors: [{index: 0, code: 11000, errmsg: "duplicate key"}], ok: 1}`.
-static DUPLICATE: [u8; 93] = [
+const DUPLICATE: [u8; 93] = [
     0x5d, 0, 0, 0, 0x10, 0x6e, 0, 0, 0, 0, 0, 4, 0x77, 0x72, 0x69, 0x74, 0x65, 0x45, 0x72, 0x72,
     0x6f, 0x72, 0x73, 0, 0x3c, 0, 0, 0, 3, 0x30, 0, 0x34, 0, 0, 0, 0x10, 0x69, 0x6e, 0x64, 0x65,
     0x78, 0, 0, 0, 0, 0, 0x10, 0x63, 0x6f, 0x64, 0x65, 0, 0xf8, 0x2a, 0, 0, 2, 0x65, 0x72, 0x72,
@@ -51,7 +108,7 @@ static DUPLICATE: [u8; 93] = [
 ];
 
 /// `{cursor: {firstBatch: [{_id: 1}, {_id: "1"}], id: 0L, ns: "t.c"}, ok: 1}`.
-static BOTH: [u8; 103] = [
+const BOTH: [u8; 103] = [
     0x67, 0, 0, 0, 3, 0x63, 0x75, 0x72, 0x73, 0x6f, 0x72, 0, 0x52, 0, 0, 0, 4, 0x66, 0x69, 0x72,
     0x73, 0x74, 0x42, 0x61, 0x74, 0x63, 0x68, 0, 0x29, 0, 0, 0, 3, 0x30, 0, 0xe, 0, 0, 0, 0x10,
     0x5f, 0x69, 0x64, 0, 1, 0, 0, 0, 0, 3, 0x31, 0, 0x10, 0, 0, 0, 2, 0x5f, 0x69, 0x64, 0, 2, 0, 0,
@@ -59,18 +116,23 @@ static BOTH: [u8; 103] = [
     0x74, 0x2e, 0x63, 0, 0, 0x10, 0x6f, 0x6b, 0, 1, 0, 0, 0, 0,
 ];
 
-/// The header of the third reply, of 114 bytes, to requestID 7.
-static THIRD: [u8; 21] = [
+/// The header of the second reply, of 114 bytes, to requestID 7.
+const SECOND: [u8; 21] = [
+    0x72, 0, 0, 0, 2, 0, 0, 0, 7, 0, 0, 0, 0xdd, 7, 0, 0, 0, 0, 0, 0, 0,
+];
+
+/// The same of the third.
+const THIRD: [u8; 21] = [
     0x72, 0, 0, 0, 3, 0, 0, 0, 7, 0, 0, 0, 0xdd, 7, 0, 0, 0, 0, 0, 0, 0,
 ];
 
 /// The header of the fourth reply, of 124 bytes, to requestID 8.
-static FOURTH: [u8; 21] = [
+const FOURTH: [u8; 21] = [
     0x7c, 0, 0, 0, 4, 0, 0, 0, 8, 0, 0, 0, 0xdd, 7, 0, 0, 0, 0, 0, 0, 0,
 ];
 
 /// `{insert: "c", documents: [{_id: 1, a: 1.0}], $db: "t"}` with requestID 7; `a` is a double.
-static INSERT_DOUBLE: [u8; 95] = [
+const INSERT_DOUBLE: [u8; 95] = [
     0x5f, 0, 0, 0, 7, 0, 0, 0, 0, 0, 0, 0, 0xdd, 7, 0, 0, 0, 0, 0, 0, 0, 0x4a, 0, 0, 0, 2, 0x69,
     0x6e, 0x73, 0x65, 0x72, 0x74, 0, 2, 0, 0, 0, 0x63, 0, 4, 0x64, 0x6f, 0x63, 0x75, 0x6d, 0x65,
     0x6e, 0x74, 0x73, 0, 0x21, 0, 0, 0, 3, 0x30, 0, 0x19, 0, 0, 0, 0x10, 0x5f, 0x69, 0x64, 0, 1, 0,
@@ -79,7 +141,7 @@ static INSERT_DOUBLE: [u8; 95] = [
 ];
 
 /// `{ok: 0, errmsg: "unsupported BSON type double", code: 2, codeName: "BadValue"}`, the first reply, to requestID 7.
-static UNSUPPORTED: [u8; 108] = [
+const UNSUPPORTED: [u8; 108] = [
     0x6c, 0, 0, 0, 1, 0, 0, 0, 7, 0, 0, 0, 0xdd, 7, 0, 0, 0, 0, 0, 0, 0, 0x57, 0, 0, 0, 0x10, 0x6f,
     0x6b, 0, 0, 0, 0, 0, 2, 0x65, 0x72, 0x72, 0x6d, 0x73, 0x67, 0, 0x1d, 0, 0, 0, 0x75, 0x6e, 0x73,
     0x75, 0x70, 0x70, 0x6f, 0x72, 0x74, 0x65, 0x64, 0x20, 0x42, 0x53, 0x4f, 0x4e, 0x20, 0x74, 0x79,
@@ -88,8 +150,14 @@ static UNSUPPORTED: [u8; 108] = [
     0x61, 0x6c, 0x75, 0x65, 0, 0,
 ];
 
+/// `{ok: 1}`, the second reply, to requestID 1.
+const OK_SECOND: [u8; 34] = [
+    0x22, 0, 0, 0, 2, 0, 0, 0, 1, 0, 0, 0, 0xdd, 7, 0, 0, 0, 0, 0, 0, 0, 0xd, 0, 0, 0, 0x10, 0x6f,
+    0x6b, 0, 1, 0, 0, 0, 0,
+];
+
 /// `{insert: "c", $db: "t"}` with requestID 7, and a sequence `documents` of `{_id: 1}`.
-static INSERT_BESIDE: [u8; 80] = [
+const INSERT_BESIDE: [u8; 80] = [
     0x50, 0, 0, 0, 7, 0, 0, 0, 0, 0, 0, 0, 0xdd, 7, 0, 0, 0, 0, 0, 0, 0, 0x1e, 0, 0, 0, 2, 0x69,
     0x6e, 0x73, 0x65, 0x72, 0x74, 0, 2, 0, 0, 0, 0x63, 0, 2, 0x24, 0x64, 0x62, 0, 2, 0, 0, 0, 0x74,
     0, 0, 1, 0x1c, 0, 0, 0, 0x64, 0x6f, 0x63, 0x75, 0x6d, 0x65, 0x6e, 0x74, 0x73, 0, 0xe, 0, 0, 0,
@@ -97,7 +165,7 @@ static INSERT_BESIDE: [u8; 80] = [
 ];
 
 /// The same with a sequence of `{_id: 1}` and `{_id: 2, a: 1.0}`; `a` is a double.
-static INSERT_DOUBLE_BESIDE: [u8; 105] = [
+const INSERT_DOUBLE_BESIDE: [u8; 105] = [
     0x69, 0, 0, 0, 7, 0, 0, 0, 0, 0, 0, 0, 0xdd, 7, 0, 0, 0, 0, 0, 0, 0, 0x1e, 0, 0, 0, 2, 0x69,
     0x6e, 0x73, 0x65, 0x72, 0x74, 0, 2, 0, 0, 0, 0x63, 0, 2, 0x24, 0x64, 0x62, 0, 2, 0, 0, 0, 0x74,
     0, 0, 1, 0x35, 0, 0, 0, 0x64, 0x6f, 0x63, 0x75, 0x6d, 0x65, 0x6e, 0x74, 0x73, 0, 0xe, 0, 0, 0,
@@ -105,132 +173,85 @@ static INSERT_DOUBLE_BESIDE: [u8; 105] = [
     1, 0x61, 0, 0, 0, 0, 0, 0, 0, 0xf0, 0x3f, 0,
 ];
 
+/// A name, messages, and the replies to them.
+type Script = (
+    &'static str,
+    &'static [&'static [u8]],
+    &'static [&'static [u8]],
+);
+
+static SCRIPTS: [Script; 9] = [
+    (
+        "a document goes in and comes out",
+        &[&INSERT, &FIND],
+        &[&INSERTED, &FOUND],
+    ),
+    (
+        "an equal _id is a write error",
+        &[&INSERT, &INSERT_TEXT, &INSERT, &FIND],
+        &[
+            &INSERTED,
+            &INSERTED_SECOND,
+            &THIRD,
+            &DUPLICATE,
+            &FOURTH,
+            &BOTH,
+        ],
+    ),
+    (
+        "an int and a long of one number are one _id",
+        &[&INSERT, &INSERT_LONG],
+        &[&INSERTED, &SECOND, &DUPLICATE],
+    ),
+    (
+        "an int and a long of two numbers are two",
+        &[&INSERT, &INSERT_LONG_2],
+        &[&INSERTED, &INSERTED_SECOND],
+    ),
+    (
+        "so are they within documents",
+        &[&INSERT_INTS, &INSERT_LONGS],
+        &[&INSERTED, &SECOND, &DUPLICATE],
+    ),
+    (
+        "the same pairs in another order are another _id",
+        &[&INSERT_A_B, &INSERT_B_A],
+        &[&INSERTED, &INSERTED_SECOND],
+    ),
+    (
+        "an unsupported type is told by name, and the next message is answered",
+        &[&INSERT_DOUBLE, &PING],
+        &[&UNSUPPORTED, &OK_SECOND],
+    ),
+    (
+        "a sequence brings a document as the array does",
+        &[&INSERT_BESIDE, &FIND],
+        &[&INSERTED, &FOUND],
+    ),
+    (
+        "an unsupported type is told in any document of a sequence",
+        &[&INSERT_DOUBLE_BESIDE],
+        &[&UNSUPPORTED],
+    ),
+];
+
+/// The first script that is answered otherwise where each read is cut to so many bytes.
+fn wrong(alloc: Global, cut: u64) -> Result<Option<&'static str>, Fail> {
+    for (name, messages, replies) in &SCRIPTS {
+        let input = joined(alloc, messages)?;
+        let expected = joined(alloc, replies)?;
+        let came = outcome(alloc, &["pipe"], input.as_slice(), cut, &[], &[])?;
+        if came.written.as_slice() != expected.as_slice() {
+            return Ok(Some(name));
+        }
+    }
+    Ok(None)
+}
+
 #[test]
-fn a_document_goes_in_and_comes_out_however_the_input_is_cut(rt: HostRuntime) -> Result<(), Fail> {
-    let input = joined(rt.alloc(), &[&INSERT, &FIND])?;
-    let answers = joined(rt.alloc(), &[&INSERTED, &FOUND])?;
+fn each_script_is_answered_however_the_input_is_cut(rt: HostRuntime) -> Result<(), Fail> {
     for cut in [1, 3, 65_536] {
-        let came = outcome(rt.alloc(), &["pipe"], input.as_slice(), cut, &[], &[])?;
-        assert_eq!(rt; came.written.as_slice(), answers.as_slice(), "cut to {cut}");
-    }
-    Ok(())
-}
-
-#[test]
-fn an_equal_id_is_a_write_error(rt: HostRuntime) -> Result<(), Fail> {
-    let input = joined(rt.alloc(), &[&INSERT, &INSERT_TEXT, &INSERT, &FIND])?;
-    let mut second = INSERTED;
-    second[4] = 2;
-    let answers = joined(
-        rt.alloc(),
-        &[&INSERTED, &second, &THIRD, &DUPLICATE, &FOURTH, &BOTH],
-    )?;
-    let came = piped(rt.alloc(), input.as_slice())?;
-    assert_eq!(rt; came.written.as_slice(), answers.as_slice());
-    Ok(())
-}
-
-#[test]
-fn an_unsupported_type_is_told_by_name_and_the_next_message_is_answered(
-    rt: HostRuntime,
-) -> Result<(), Fail> {
-    let input = joined(rt.alloc(), &[&INSERT_DOUBLE, &PING])?;
-    let mut second = OK;
-    second[4] = 2;
-    let answers = joined(rt.alloc(), &[&UNSUPPORTED, &second])?;
-    let came = piped(rt.alloc(), input.as_slice())?;
-    assert_eq!(rt; came.written.as_slice(), answers.as_slice());
-    Ok(())
-}
-
-#[test]
-fn an_insert_by_a_sequence_is_answered_as_one_by_the_array(rt: HostRuntime) -> Result<(), Fail> {
-    let input = joined(rt.alloc(), &[&INSERT_BESIDE, &FIND])?;
-    let answers = joined(rt.alloc(), &[&INSERTED, &FOUND])?;
-    let came = piped(rt.alloc(), input.as_slice())?;
-    assert_eq!(rt; came.written.as_slice(), answers.as_slice());
-    Ok(())
-}
-
-#[test]
-fn an_unsupported_type_is_told_in_any_document_of_a_sequence(rt: HostRuntime) -> Result<(), Fail> {
-    let came = piped(rt.alloc(), &INSERT_DOUBLE_BESIDE)?;
-    assert_eq!(rt; came.written.as_slice(), UNSUPPORTED.as_slice());
-    Ok(())
-}
-
-/// The values of an `_id`, as the rows write them.
-#[derive(Clone, Copy)]
-enum Id {
-    Int(i32),
-    Long(i64),
-    Ints(&'static [(&'static str, i32)]),
-    Longs(&'static [(&'static str, i64)]),
-}
-
-fn ints(alloc: Global, pairs: &[(&'static str, i32)]) -> Result<Value, NoMemory> {
-    let mut doc = Document::new(alloc);
-    for (name, number) in pairs {
-        push(alloc, &mut doc, name, Value::Int(*number))?;
-    }
-    Ok(Value::Doc(doc))
-}
-
-fn longs(alloc: Global, pairs: &[(&'static str, i64)]) -> Result<Value, NoMemory> {
-    let mut doc = Document::new(alloc);
-    for (name, number) in pairs {
-        push(alloc, &mut doc, name, Value::Long(*number))?;
-    }
-    Ok(Value::Doc(doc))
-}
-
-fn id_value(alloc: Global, id: Id) -> Result<Value, NoMemory> {
-    match id {
-        Id::Int(number) => Ok(Value::Int(number)),
-        Id::Long(number) => Ok(Value::Long(number)),
-        Id::Ints(pairs) => ints(alloc, pairs),
-        Id::Longs(pairs) => longs(alloc, pairs),
-    }
-}
-
-/// An array of a document with that `_id`.
-fn only(alloc: Global, id: Id) -> Result<Value, NoMemory> {
-    let id = id_value(alloc, id)?;
-    let mut doc = Document::new(alloc);
-    push(alloc, &mut doc, "_id", id)?;
-    let mut items = List::new(alloc);
-    items.push(Value::Doc(doc)).map_err(|_| NoMemory)?;
-    Ok(Value::Arr(items))
-}
-
-fn insert_of(alloc: Global, id: Id) -> Result<Bytes, NoMemory> {
-    let documents = only(alloc, id)?;
-    let mut body = Document::new(alloc);
-    push(alloc, &mut body, "insert", text(alloc, "c")?)?;
-    push(alloc, &mut body, "documents", documents)?;
-    push(alloc, &mut body, "$db", text(alloc, "t")?)?;
-    with_header(alloc, &body)
-}
-
-#[test]
-fn an_int_and_a_long_of_one_number_are_one_id(rt: HostRuntime) -> Result<(), Fail> {
-    // A reply to an insert has 41 bytes, that with a write error 114.
-    let rows: [(Id, Id, usize); 4] = [
-        (Id::Int(1), Id::Long(1), 41 + 114),
-        (Id::Int(1), Id::Long(2), 41 + 41),
-        (Id::Ints(&[("a", 1)]), Id::Longs(&[("a", 1)]), 41 + 114),
-        (
-            Id::Ints(&[("a", 1), ("b", 2)]),
-            Id::Ints(&[("b", 2), ("a", 1)]),
-            41 + 41,
-        ),
-    ];
-    for (place, (one, other, len)) in rows.iter().enumerate() {
-        let first = insert_of(rt.alloc(), *one)?;
-        let second = insert_of(rt.alloc(), *other)?;
-        let input = joined(rt.alloc(), &[first.as_slice(), second.as_slice()])?;
-        let came = piped(rt.alloc(), input.as_slice())?;
-        assert_eq!(rt; came.written.len(), *len, "row {place}");
+        assert_eq!(rt; wrong(rt.alloc(), cut)?, None, "cut to {cut}");
     }
     Ok(())
 }
@@ -400,16 +421,18 @@ fn error(alloc: Global, told: Told) -> Result<Bytes, NoMemory> {
     spelled(alloc, &doc)
 }
 
+/// Whether a message with that body is refused so.
+fn is_told(alloc: Global, fields: Fields, told: Told) -> Result<bool, Fail> {
+    let input = message(alloc, fields)?;
+    let expected = error(alloc, told)?;
+    let came = piped(alloc, input.as_slice())?;
+    Ok(came.written.as_slice().ends_with(expected.as_slice()))
+}
+
 #[test]
 fn a_refusal_tells_its_code_and_its_sentence(rt: HostRuntime) -> Result<(), Fail> {
     for (place, (fields, told)) in REFUSED.iter().enumerate() {
-        let input = message(rt.alloc(), fields)?;
-        let expected = error(rt.alloc(), *told)?;
-        let came = piped(rt.alloc(), input.as_slice())?;
-        assert!(rt;
-            came.written.as_slice().ends_with(expected.as_slice()),
-            "row {place}"
-        );
+        assert!(rt; is_told(rt.alloc(), fields, *told)?, "row {place}");
     }
     Ok(())
 }

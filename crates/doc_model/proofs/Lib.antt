@@ -1,3 +1,4 @@
 pub mod Runs
 pub mod Inserts
 pub mod Ids
+pub mod Keeping

@@ -1,9 +1,10 @@
-//! Store: what documents a one-thread store holds, and what each operation makes of them.
+//! Store: what documents a one-thread store holds, and what each operation makes of them; the same as a plain program.
 #![tactic(auto)]
 
 mod collection;
 mod laws;
 mod op;
+mod plain_store;
 
 pub use collection::Collection;
 pub use laws::{
@@ -11,3 +12,4 @@ pub use laws::{
     what_was_inserted_is_found,
 };
 pub use op::{Op, OpReply};
+pub use plain_store::PlainStore;

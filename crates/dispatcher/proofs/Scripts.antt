@@ -4,8 +4,8 @@ use Rattle.std.proofs.lemmas.List.{append-nil}
 use Rattle.doc_model.specs.Run.{run}
 use Rattle.doc_model.specs.Store.{Store}
 use Rattle.doc_model.proofs.Runs.{run-append}
-use Rattle.doc_server.specs.Answers.{answer}
-use Rattle.doc_server.specs.Script.{Executed, messages, moments, ops_of, numbered, ops_from, IsSound, bytes_from}
+use Rattle.dispatcher.specs.Answers.{answer}
+use Rattle.dispatcher.specs.Script.{Executed, messages, moments, ops_of, numbered, ops_from, IsSound, bytes_from}
 
 pub messages-append : (ts us : List Executed) → messages (ts ++ us) ≡ messages ts ++ messages us
 messages-append [] us = refl

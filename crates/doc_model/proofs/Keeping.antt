@@ -10,7 +10,7 @@ use Rattle.bson_values.specs.declared.value.Value.{Value}
 use Rattle.bson_values.specs.Names.{same_space}
 use Rattle.doc_model.specs.declared.collection.Collection.{Collection}
 use Rattle.doc_model.specs.Store.{collection_of, with_last}
-use Rattle.doc_server.specs.Kept.{Stands}
+use Rattle.doc_model.specs.Kept.{Stands}
 
 module _ (space : Space) where
   is_of : Collection → Bool

@@ -1,17 +1,17 @@
-ghost use Rattle.std.specs.Prelude.{◌≡◌, ◌<◌, [], ℕ, Some};
+ghost use Rattle.std.specs.Prelude.{◌≡◌, ℕ, IfOk};
 ghost use Rattle.std.specs.List.{position};
 ghost use Rattle.bson_values.specs.Names.{same_space};
 ghost use Rattle.history_lock.specs.declared.entry.Who.{Who};
 ghost use Rattle.doc_model.specs.Store.{empty_store, collection_of, docs_of, same_id, has_id};
 ghost use Rattle.doc_model.specs.declared.op.Op.TheVariants as op;
 ghost use Rattle.doc_model.specs.Step.{step};
-ghost use Rattle.doc_server.specs.Kept.{store_of, Adds, Stands};
-ghost use Rattle.doc_server.specs.Carried.{IsInsertReply};
+ghost use Rattle.doc_model.specs.Kept.{store_of, Adds, Stands, Suits};
 
+use crate::collection::Collection;
+use crate::op::{Op, OpReply};
 use bson_order::same;
-use bson_values::{Document, List, Space};
+use bson_values::{Document, List, NoMemory, Space};
 use case_tables::{DUPLICATE_KEY, NUMBERS_SPENT, TOO_MANY_COLLECTIONS};
-use doc_model::{Collection, OpReply};
 use std::alloc::Global;
 
 /// The most collections that there may be.
@@ -72,6 +72,20 @@ fn add(collection: &mut Collection, next: u64, doc: Document) -> OpReply
     }
 }
 
+/// Copies that share what they hold.
+fn copies(alloc: Global, docs: &[Document]) -> Result<List<Document>, NoMemory>
+    ensures { IfOk result (λ copied. copied ≡ docs.now) }
+{
+    let mut copied = List::new(alloc);
+    for doc in docs {
+        let again = doc.copy(alloc)?;
+        if copied.push(again).is_err() {
+            return Err(NoMemory);
+        }
+    }
+    Ok(copied)
+}
+
 impl PlainStore {
     pub fn new(alloc: Global) -> PlainStore
         ensures { store_of result ≡ empty_store }
@@ -82,8 +96,19 @@ impl PlainStore {
         }
     }
 
+    /// Does what is asked, as a step of the one-thread store. Want of memory changes nothing.
+    pub fn perform(&mut self, alloc: Global, op: Op) -> OpReply
+        ensures suits { Suits op result }
+        ensures step { (who : Who) (now : ℕ) → step who now op (store_of self.old) result (store_of self.new) }
+    {
+        match op {
+            Op::Insert { space, doc } => self.insert(alloc, space, doc),
+            Op::Find { space } => self.find(alloc, &space),
+        }
+    }
+
     /// The documents of a collection, in the order of their insertion.
-    pub fn find(&self, space: &Space) -> &[Document]
+    fn documents(&self, space: &Space) -> &[Document]
         ensures { result.now ≡ docs_of space.now (store_of self.now) }
     {
         match place_of(space, &self.collections) {
@@ -92,9 +117,19 @@ impl PlainStore {
         }
     }
 
+    fn find(&self, alloc: Global, space: &Space) -> OpReply
+        ensures suits { Suits (op.Find space.now) result }
+        ensures step { (who : Who) (now : ℕ) → step who now (op.Find space.now) (store_of self.now) result (store_of self.now) }
+    {
+        match copies(alloc, self.documents(space)) {
+            Ok(docs) => OpReply::Selected(docs),
+            Err(NoMemory) => OpReply::NoMemory,
+        }
+    }
+
     /// Adds a document to its collection, which is created where it is absent.
-    pub fn insert(&mut self, alloc: Global, space: Space, doc: Document) -> OpReply
-        ensures kind { IsInsertReply result }
+    fn insert(&mut self, alloc: Global, space: Space, doc: Document) -> OpReply
+        ensures suits { Suits (op.Insert space doc) result }
         ensures step { (who : Who) (now : ℕ) → step who now (op.Insert space doc) (store_of self.old) result (store_of self.new) }
     {
         match place_of(&space, &self.collections) {
@@ -112,7 +147,7 @@ impl PlainStore {
     /// Creates a collection with its first document.
     fn create(&mut self, alloc: Global, space: Space, doc: Document) -> OpReply
         requires { collection_of space self.old.collections.items ≡ None }
-        ensures kind { IsInsertReply result }
+        ensures suits { Suits (op.Insert space doc) result }
         ensures step { (who : Who) (now : ℕ) → step who now (op.Insert space doc) (store_of self.old) result (store_of self.new) }
     {
         if self.collections.len() >= MOST_COLLECTIONS {

@@ -1,0 +1,131 @@
+-- How long the documents of replies are.
+use Rattle.std.proofs.Common.{◌≡◌, ℕ, pos, ◌+◌, ◌*◌, ◌≤◌, Bool, true, false, cond, leb, eqb, List, [], ◌∷◌, ◌++◌, length, map, sym, ◌∙◌, arith, length-append}
+use Rattle.std.specs.Prelude.{codes, Option, None, Some}
+use Rattle.std.proofs.lemmas.Bool.{leb-true}
+use Rattle.std_words.proofs.Tests.{and-both}
+use Rattle.bson_values.specs.declared.pairs.Pair.{Pair}
+use Rattle.bson_values.specs.declared.space.Space.{Space}
+use Rattle.bson_values.specs.declared.value.Value.{Value}
+use Rattle.bson_values.specs.declared.value.Value.TheVariants as value
+use Rattle.bson_values.specs.Measures.{items_size, value_size}
+use Rattle.bson_values.proofs.Totals.{digits_few, size_items}
+use Rattle.bson_wire.specs.Spelling.{spell, held}
+use Rattle.bson_wire.proofs.Measured.{value_measured, measured}
+use Rattle.bson_wire.proofs.Sizes.{spell-push}
+use Rattle.bson_wire.proofs.Lengths.{size-Int, size-Long, size-Str, size-Doc}
+use Rattle.case_tables.specs.Refusals.{code_of, code_name_of, text_of}
+use Rattle.case_tables.specs.Types.{type_name_of}
+use Rattle.case_tables.proofs.Bounds.{text_short, name_short, type_name_short}
+use Rattle.reply_words.specs.declared.reply.Reply.{Reply}
+use Rattle.reply_words.specs.declared.reply.Reply.TheVariants.{Done, Error, Inserted, NotInserted, Batch}
+use Rattle.reply_words.specs.Replies.{int, long, text, document, documents, named, sentence, item_error, namespace, cursor, document_of, total_size, fit_a_batch}
+use Rattle.reply_words.specs.Small.{IsSmall}
+
+size-Arr : (items : List Value) → length (held (value.Arr items)).1 ≡ items_size 0 (map value_size items) + 5
+size-Arr items = sym (value_measured (value.Arr items)) ∙ size_items items
+
+named_short : (name : List ℕ) → length name ≤ 50 → length (named name) ≤ 60
+named_short [] short = omega arith
+named_short (byte ∷ name) short = omega (arith, short, length-append (codes " ") (byte ∷ name))
+
+one_of : (test : Bool) (one other : List ℕ) → length one ≤ 200 → length other ≤ 200 → length (cond test one other) ≤ 200
+one_of true one other first second = first
+one_of false one other first second = second
+
+sentence_short : (kind : ℕ) (code : Option ℕ) → length (sentence kind code) ≤ 200
+sentence_short kind None = omega (arith, text_short kind)
+sentence_short kind (Some code) =
+    one_of (eqb kind 2) (text_of kind ++ named (type_name_of code)) (text_of kind)
+    (omega (arith, text_short kind, named_short (type_name_of code) (type_name_short code), length-append (text_of kind) (named (type_name_of code))))
+    (omega (arith, text_short kind))
+
+item_short : (kind : ℕ) → length (spell (item_error 0 kind)) ≤ 200
+item_short kind =
+    let one : List (Pair Value) = int "index" 0 ∷ [] in
+    let two : List (Pair Value) = one ++ int "code" (code_of kind) ∷ [] in
+    omega (
+      arith,
+      spell-push [] (codes "index") (value.Int (pos 0)),
+      spell-push one (codes "code") (value.Int (pos (code_of kind))),
+      spell-push two (codes "errmsg") (value.Str (text_of kind)),
+      size-Int (pos 0),
+      size-Int (pos (code_of kind)),
+      size-Str (text_of kind),
+      text_short kind,
+    )
+
+-- documents as items, with their names
+items_short : (place : ℕ) (docs : List (List (Pair Value))) → place + length docs ≤ 1000 → items_size place (map value_size (map value.Doc docs)) ≤ total_size docs + 22 * length docs
+items_short place [] few = omega arith
+items_short place (doc ∷ docs) few = omega (arith, few, digits_few place (omega (arith, few)), items_short (place + 1) docs (omega (arith, few)))
+
+cursor_short : (space : Space) (docs : List (List (Pair Value))) → IsSmall (Batch space docs) → length (spell (cursor space docs)) ≤ 16780000
+cursor_short space docs small =
+    let items = map value.Doc docs in
+    let one : List (Pair Value) = documents "firstBatch" docs ∷ [] in
+    let two : List (Pair Value) = one ++ long "id" 0 ∷ [] in
+    let both = and-both (leb (length docs) 101) (leb (total_size docs) 16777216) small.0 in
+    let count : length docs ≤ 101 = leb-true _ _ both.0 in
+    let bytes : total_size docs ≤ 16777216 = leb-true _ _ both.1 in
+    omega (
+      arith,
+      count,
+      bytes,
+      spell-push [] (codes "firstBatch") (value.Arr items),
+      spell-push one (codes "id") (value.Long (pos 0)),
+      spell-push two (codes "ns") (value.Str (namespace space)),
+      size-Arr items,
+      items_short 0 docs (omega (arith, count)),
+      size-Long (pos 0),
+      size-Str (namespace space),
+      small.1,
+    )
+
+pub fits : (reply : Reply) → IsSmall reply → length (spell (document_of reply)) ≤ 47999000
+fits Done small = omega (arith, spell-push [] (codes "ok") (value.Int (pos 1)), size-Int (pos 1))
+fits Inserted small =
+    let one : List (Pair Value) = int "n" 1 ∷ [] in
+    omega (arith, spell-push [] (codes "n") (value.Int (pos 1)), spell-push one (codes "ok") (value.Int (pos 1)), size-Int (pos 1))
+fits (Error kind code) small =
+    let one : List (Pair Value) = int "ok" 0 ∷ [] in
+    let two : List (Pair Value) = one ++ text "errmsg" (sentence kind code) ∷ [] in
+    let three : List (Pair Value) = two ++ int "code" (code_of kind) ∷ [] in
+    omega (
+      arith,
+      spell-push [] (codes "ok") (value.Int (pos 0)),
+      spell-push one (codes "errmsg") (value.Str (sentence kind code)),
+      spell-push two (codes "code") (value.Int (pos (code_of kind))),
+      spell-push three (codes "codeName") (value.Str (code_name_of kind)),
+      size-Int (pos 0),
+      size-Str (sentence kind code),
+      size-Int (pos (code_of kind)),
+      size-Str (code_name_of kind),
+      sentence_short kind code,
+      name_short kind,
+    )
+fits (NotInserted kind) small =
+    let errors = map value.Doc (item_error 0 kind ∷ []) in
+    let one : List (Pair Value) = int "n" 0 ∷ [] in
+    let two : List (Pair Value) = one ++ documents "writeErrors" (item_error 0 kind ∷ []) ∷ [] in
+    omega (
+      arith,
+      spell-push [] (codes "n") (value.Int (pos 0)),
+      spell-push one (codes "writeErrors") (value.Arr errors),
+      spell-push two (codes "ok") (value.Int (pos 1)),
+      size-Int (pos 0),
+      size-Int (pos 1),
+      size-Arr errors,
+      items_short 0 (item_error 0 kind ∷ []) (omega arith),
+      measured (item_error 0 kind),
+      item_short kind,
+    )
+fits (Batch space docs) small =
+    let one : List (Pair Value) = document "cursor" (cursor space docs) ∷ [] in
+    omega (
+      arith,
+      spell-push [] (codes "cursor") (value.Doc (cursor space docs)),
+      spell-push one (codes "ok") (value.Int (pos 1)),
+      size-Doc (cursor space docs),
+      cursor_short space docs small,
+      size-Int (pos 1),
+    )

@@ -11,8 +11,8 @@ use Rattle.command_words.specs.declared.command.Command.{Command}
 use Rattle.command_words.specs.declared.command.Command.TheVariants.{Insert, Find}
 use Rattle.command_words.specs.Refusal.{refusal}
 use Rattle.command_words.specs.Meaning.{command_of}
-use Rattle.reply_words.specs.declared.reply.Reply.{Reply}
-use Rattle.reply_words.specs.declared.reply.Reply.TheVariants as it
+use Rattle.reply_words.specs.declared.replies.Reply.{Reply}
+use Rattle.reply_words.specs.declared.replies.Reply.TheVariants as it
 use Rattle.reply_words.specs.Replies.{document_of, fit_a_batch}
 
 -- what tells an operation's reply; so far a find is refused, by kind 29, whose documents do not go into one batch

@@ -16,8 +16,8 @@ use Rattle.bson_wire.proofs.Lengths.{size-Int, size-Long, size-Str, size-Doc}
 use Rattle.case_tables.specs.Refusals.{code_of, code_name_of, text_of}
 use Rattle.case_tables.specs.Types.{type_name_of}
 use Rattle.case_tables.proofs.Bounds.{text_short, name_short, type_name_short}
-use Rattle.reply_words.specs.declared.reply.Reply.{Reply}
-use Rattle.reply_words.specs.declared.reply.Reply.TheVariants.{Done, Error, Inserted, NotInserted, Batch}
+use Rattle.reply_words.specs.declared.replies.Reply.{Reply}
+use Rattle.reply_words.specs.declared.replies.Reply.TheVariants.{Done, Error, Inserted, NotInserted, Batch}
 use Rattle.reply_words.specs.Replies.{int, long, text, document, documents, named, sentence, item_error, namespace, cursor, document_of, total_size, fit_a_batch}
 use Rattle.reply_words.specs.Small.{IsSmall}
 

@@ -8,8 +8,8 @@ use Rattle.bson_values.specs.declared.value.Value.TheVariants.{Str, Doc, Arr, In
 use Rattle.bson_values.specs.Measures.{size}
 use Rattle.case_tables.specs.Refusals.{code_of, code_name_of, text_of}
 use Rattle.case_tables.specs.Types.{type_name_of}
-use Rattle.reply_words.specs.declared.reply.Reply.{Reply}
-use Rattle.reply_words.specs.declared.reply.Reply.TheVariants.{Done, Error, Inserted, NotInserted, Batch}
+use Rattle.reply_words.specs.declared.replies.Reply.{Reply}
+use Rattle.reply_words.specs.declared.replies.Reply.TheVariants.{Done, Error, Inserted, NotInserted, Batch}
 
 -- fields
 abbrev pub int : String → ℕ → Pair Value

@@ -1,6 +1,6 @@
 ghost use Rattle.std.specs.Prelude.{◌≤◌, length};
 ghost use Rattle.bson_wire.specs.Spelling.{spell};
-ghost use Rattle.reply_words.specs.declared.reply.Reply.{Reply};
+ghost use Rattle.reply_words.specs.declared.replies.Reply.{Reply};
 ghost use Rattle.reply_words.specs.Replies.{document_of};
 ghost use Rattle.reply_words.specs.Small.{IsSmall};
 

@@ -1,16 +1,13 @@
 //! Service: what a message is answered, and the documents that tell it.
 #![tactic(auto)]
 
-mod batch;
-mod error;
+mod batches;
 mod fields;
 mod laws;
-mod reply;
+mod refusals;
+mod replies;
 
-pub use batch::fit_a_batch;
-pub use error::error;
+pub use batches::fit_a_batch;
 pub use laws::a_small_reply_can_be_sent;
-pub use reply::{Reply, done};
-
-#[cfg(test)]
-mod tests;
+pub use refusals::error;
+pub use replies::{Reply, done};

@@ -1,7 +1,7 @@
 use Rattle.std.proofs.Common.{◌≡◌, ◌≤◌, ◌+◌, ◌-◌, ◌^◌, length}
 use Rattle.std.specs.Prelude.{min}
 use Rattle.reply_words.specs.Replies.{total_size}
-use Rattle.reply_words.proofs.batch.total_size.Given as goal
+use Rattle.reply_words.proofs.batches.total_size.Given as goal
 
 abbrev pub invariant-loop-rest : goal.invariant-loop-rest
 invariant-loop-rest l = record {

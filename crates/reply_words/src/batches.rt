@@ -1,6 +1,6 @@
 ghost use Rattle.std.specs.Prelude.{◌≡◌, ◌^◌, ◌-◌, min, map, IfOk, OnOk, ◌++◌, ◌∷◌, []};
 ghost use Rattle.bson_values.specs.declared.value.Value.TheVariants as value;
-ghost use Rattle.reply_words.specs.declared.reply.Reply.TheVariants as reply;
+ghost use Rattle.reply_words.specs.declared.replies.Reply.TheVariants as reply;
 ghost use Rattle.reply_words.specs.Replies.{namespace, cursor, document_of, total_size, fit_a_batch};
 
 use crate::fields::add;

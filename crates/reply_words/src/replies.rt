@@ -1,9 +1,9 @@
 ghost use Rattle.std.specs.Prelude.{◌≡◌, IfOk};
-ghost use Rattle.reply_words.specs.declared.reply.Reply.TheVariants as reply;
+ghost use Rattle.reply_words.specs.declared.replies.Reply.TheVariants as reply;
 ghost use Rattle.reply_words.specs.Replies.{document_of};
 
-use crate::batch::batch;
-use crate::error::{error, not_inserted};
+use crate::batches::batch;
+use crate::refusals::{error, not_inserted};
 use crate::fields::add;
 use bson_values::{Document, List, NoMemory, Space, Value};
 use case_tables::Kind;

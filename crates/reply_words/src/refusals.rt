@@ -1,6 +1,6 @@
 ghost use Rattle.std.specs.Prelude.{◌≡◌, ◌++◌, ◌∷◌, [], pos, codes, IfOk, OnOk};
 ghost use Rattle.case_tables.specs.Refusals.{code_of};
-ghost use Rattle.reply_words.specs.declared.reply.Reply.TheVariants as reply;
+ghost use Rattle.reply_words.specs.declared.replies.Reply.TheVariants as reply;
 ghost use Rattle.reply_words.specs.Replies.{sentence, item_error, document_of};
 
 use crate::fields::{add, add_text, alone};

@@ -1,3 +1,3 @@
 pub mod Answers
 pub mod Script
-pub mod Dealt
+pub mod Answering

@@ -1,4 +1,5 @@
-ghost use Rattle.std.specs.Prelude.{◌≡◌, IfOk, OnErr, option_map};
+ghost use Rattle.std.specs.Prelude.{◌≡◌, FitsSigned, IfOk, OnErr, option_map};
+ghost use Rattle.std.specs.Int.{w32};
 ghost use Rattle.op_msg.specs.Reply.{reply};
 ghost use Rattle.doc_model.specs.declared.op.Op.TheVariants as op;
 ghost use Rattle.doc_model.specs.declared.op.OpReply.TheVariants as replied;
@@ -6,8 +7,8 @@ ghost use Rattle.doc_model.specs.Kept.{store_of};
 ghost use Rattle.command_words.specs.Meaning.{IsNamed, OpIsNamed};
 ghost use Rattle.reply_words.specs.Replies.{document_of};
 ghost use Rattle.reply_words.specs.Small.{IsSmall};
-ghost use Rattle.dispatcher.specs.Answers.{told};
-ghost use Rattle.dispatcher.specs.Dealt.{Performed, Answered};
+ghost use Rattle.dispatcher.specs.Answers.{told, number_after};
+ghost use Rattle.dispatcher.specs.Answering.{Performed, Answered};
 
 use bson_values::{Bytes, Document, List, NoMemory, Space};
 use bson_wire::Foreign;
@@ -18,41 +19,41 @@ use op_msg::{Message, put_reply};
 use reply_words::{Reply, fit_a_batch};
 use std::alloc::Global;
 
-/// Where a reply goes: its own number on the connection, and that of the request.
-#[derive(Clone, Copy)]
-struct Head {
-    number: i32,
-    request: i32,
+/// The `requestID` of the reply that comes after so many: they are counted modulo 2^31, from 1 on.
+fn number_after(replies: u64) -> i32
+    ensures value { result ≡ number_after replies }
+    ensures fits { FitsSigned w32 result }
+{
+    (replies.wrapping_add(1) % 0x8000_0000) as i32
 }
 
-impl Head {
-    /// The bytes of a reply.
-    #[tactic(auto, using(crate::proofs::Sending::fits))]
-    fn put(self, alloc: Global, told: Reply) -> Result<Bytes, NoMemory>
-        requires { IsSmall told }
-        ensures { IfOk result (λ bytes. bytes ≡ reply self.number self.request (document_of told)) }
-    {
-        let doc = told.document(alloc)?;
-        put_reply(alloc, self.number, self.request, &doc)
-    }
+/// The bytes of a reply, by its own number on the connection and that of the request.
+#[tactic(auto, using(reply_words::proofs::Fitting::fits))]
+fn put(alloc: Global, number: i32, request: i32, told: Reply) -> Result<Bytes, NoMemory>
+    requires { IsSmall told }
+    ensures { IfOk result (λ bytes. bytes ≡ reply number request (document_of told)) }
+{
+    let doc = told.document(alloc)?;
+    put_reply(alloc, number, request, &doc)
 }
 
 fn insert(
     alloc: Global,
     store: &mut PlainStore,
-    head: Head,
+    number: i32,
+    request: i32,
     space: Space,
     doc: Document,
 ) -> Result<Bytes, NoMemory>
-    ensures ok { IfOk result (λ bytes. Performed (op.Insert space doc) head.number head.request
+    ensures ok { IfOk result (λ bytes. Performed (op.Insert space doc) number request
         (store_of store.old) (store_of store.new) bytes) }
     ensures err { OnErr result (store_of store.new ≡ store_of store.old) }
 {
     // The reply is made first: once the document is stored, nothing may fail.
-    let inserted = head.put(alloc, Reply::Inserted)?;
+    let inserted = put(alloc, number, request, Reply::Inserted)?;
     match store.perform(alloc, Op::Insert { space, doc }) {
         OpReply::Inserted => Ok(inserted),
-        OpReply::Refused(kind) => head.put(alloc, Reply::NotInserted { kind }),
+        OpReply::Refused(kind) => put(alloc, number, request, Reply::NotInserted { kind }),
         OpReply::NoMemory => Err(NoMemory),
         OpReply::Selected(_) => unreachable!(),
     }
@@ -78,17 +79,18 @@ fn found(space: Space, docs: List<Document>) -> Reply
 fn find(
     alloc: Global,
     store: &mut PlainStore,
-    head: Head,
+    number: i32,
+    request: i32,
     space: Space,
 ) -> Result<Bytes, NoMemory>
     requires { IsNamed space }
-    ensures ok { IfOk result (λ bytes. Performed (op.Find space) head.number head.request
+    ensures ok { IfOk result (λ bytes. Performed (op.Find space) number request
         (store_of store.old) (store_of store.new) bytes) }
     ensures err { OnErr result (store_of store.new ≡ store_of store.old) }
 {
     let named = space.copy(alloc)?;
     match store.perform(alloc, Op::Find { space }) {
-        OpReply::Selected(docs) => head.put(alloc, found(named, docs)),
+        OpReply::Selected(docs) => put(alloc, number, request, found(named, docs)),
         OpReply::NoMemory => Err(NoMemory),
         OpReply::Inserted => unreachable!(),
         OpReply::Refused(_) => unreachable!(),
@@ -98,43 +100,50 @@ fn find(
 fn perform(
     alloc: Global,
     store: &mut PlainStore,
-    head: Head,
+    number: i32,
+    request: i32,
     op: Op,
 ) -> Result<Bytes, NoMemory>
     requires { OpIsNamed op }
-    ensures ok { IfOk result (λ bytes. Performed op head.number head.request
+    ensures ok { IfOk result (λ bytes. Performed op number request
         (store_of store.old) (store_of store.new) bytes) }
     ensures err { OnErr result (store_of store.new ≡ store_of store.old) }
 {
     match op {
-        Op::Insert { space, doc } => insert(alloc, store, head, space, doc),
-        Op::Find { space } => find(alloc, store, head, space),
+        Op::Insert { space, doc } => insert(alloc, store, number, request, space, doc),
+        Op::Find { space } => find(alloc, store, number, request, space),
     }
 }
 
-/// The bytes that answer a message, as the reply with that `requestID`. Want of memory changes nothing.
+/// The bytes that answer a message which comes after so many replies of its connection. Want of memory changes nothing.
 pub fn answer(
     alloc: Global,
     store: &mut PlainStore,
-    number: i32,
+    replies: u64,
     message: &Message,
 ) -> Result<Bytes, NoMemory>
-    ensures ok { IfOk result (λ bytes. Answered message.now number
+    ensures ok { IfOk result (λ bytes. Answered message.now replies
         (store_of store.old) (store_of store.new) bytes) }
     ensures err { OnErr result (store_of store.new ≡ store_of store.old) }
 {
-    let head = Head {
-        number,
-        request: message.request,
-    };
+    let number = number_after(replies);
+    let request = request_of(message);
     let code = code_of(&message.foreign);
     match Command::read(alloc, message) {
-        Ok(Command::Ping) => head.put(alloc, Reply::Done),
-        Ok(Command::Insert { op }) => perform(alloc, store, head, op),
-        Ok(Command::Find { op }) => perform(alloc, store, head, op),
-        Err(CommandRefused::Refused(kind)) => head.put(alloc, Reply::Error { kind, code }),
+        Ok(Command::Ping) => put(alloc, number, request, Reply::Done),
+        Ok(Command::Insert { op }) => perform(alloc, store, number, request, op),
+        Ok(Command::Find { op }) => perform(alloc, store, number, request, op),
+        Err(CommandRefused::Refused(kind)) => put(alloc, number, request, Reply::Error { kind, code }),
         Err(CommandRefused::NoMemory) => Err(NoMemory),
     }
+}
+
+/// The `requestID` of a message.
+fn request_of(message: &Message) -> i32
+    ensures value { result ≡ message.now.request }
+    ensures fits { FitsSigned w32 result }
+{
+    message.request
 }
 
 /// The type byte of a foreign element.

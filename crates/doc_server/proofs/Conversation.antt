@@ -1,23 +1,23 @@
 -- One step of a conversation.
-use Rattle.std.proofs.Common.{◌≡◌, ℕ, ◌+◌, ◌≤◌, ◌<◌, ◌^◌, List, [], ◌∷◌, ◌++◌, length, take, drop, refl, ap, arith, sym, subst, ◌∙◌, length-append, length-drop}
+use Rattle.std.proofs.Common.{◌≡◌, ℕ, ◌+◌, ◌≤◌, ◌<◌, ◌⊎◌, inl, inr, List, [], ◌∷◌, ◌++◌, length, take, drop, refl, ap, arith, sym, subst, ◌∙◌, length-append, length-drop}
 use Rattle.std.proofs.lemmas.List.{append-nil, take-append-drop, drop-drop}
 use Rattle.std.proofs.Math.Seq.{take-append-add}
 use Rattle.outside.specs.Told.{Grows}
 use Rattle.op_msg.specs.declared.message.Message.{Message}
 use Rattle.doc_server.specs.declared.why.Why.{Why}
 use Rattle.doc_server.specs.declared.why.Why.TheVariants.{Closed, Truncated, BadFrame, ReadFault, WriteFault, Long, NoMemory}
-use Rattle.doc_server.specs.Answers.{answer}
+use Rattle.dispatcher.specs.Answers.{answer}
 use Rattle.op_msg.specs.Stream.{message, in_order}
 use Rattle.op_msg.specs.Reading.{short}
 use Rattle.op_msg.specs.Front.{Begins}
 use Rattle.op_msg.proofs.Framing.{in_order-more, in_order-on}
 use Rattle.doc_model.specs.Store.{Store}
 use Rattle.doc_model.specs.Run.{run}
-use Rattle.doc_server.specs.Script.{Executed, messages, moments, ops_of, numbered, ops_from, IsSound, bytes_of}
-use Rattle.doc_server.specs.Talk.{Scene, Wrote, Timed, Ends, Talk, Talks}
+use Rattle.dispatcher.specs.Script.{Executed, messages, moments, ops_of, numbered, ops_from, IsSound, bytes_of}
+use Rattle.doc_server.specs.Talk.{MOST_READ, Scene, Wrote, Timed, Ends, Talk, Talks}
 use Rattle.doc_server.specs.Steps.{Dealt, Stops, Moves}
 use Rattle.doc_server.proofs.Growth.{grows-none, grows-on, shrinks-none, shrinks-on}
-use Rattle.doc_server.proofs.Scripts.{messages-append, moments-append, sound-append, bytes_from-last, ran-last}
+use Rattle.dispatcher.proofs.Scripts.{messages-append, moments-append, sound-append, bytes_from-last, ran-last}
 
 -- a conversation that goes on, of which so many bytes came
 abbrev pub Going : ℕ → ℕ → Scene → Scene → Store → Store → ℕ → ℕ → List ℕ → Type 0
@@ -112,7 +112,7 @@ module _ (seat number : ℕ) where
       came = rw left going.3.came;
       order = going.3.order;
       written = rw left_so.0 going.3.written;
-      timed = (left_so.2 ∷ [], grows-on old.moments mid.moments new.moments (moments going.1) (left_so.2 ∷ []) going.3.timed left_so.3);
+      timed = inr (left_so.2, grows-on old.moments mid.moments new.moments (moments going.1) (left_so.2 ∷ []) going.3.timed left_so.3);
       count = going.3.count;
       sound = going.3.sound;
       ran = rw left_so.1 going.3.ran;
@@ -159,14 +159,14 @@ module _ (seat number : ℕ) where
           going.0 ++ stop.0,
           going.1,
           rest ++ stop.0,
-          record { taken = talk.taken; came = talk.came; order = talk.order; written = talk.written; timed = ([], subst (λ ns. Grows old.moments new.moments ns) (sym (append-nil (moments going.1))) talk.timed); count = talk.count; sound = talk.sound; ran = talk.ran },
+          record { taken = talk.taken; came = talk.came; order = talk.order; written = talk.written; timed = inl talk.timed; count = talk.count; sound = talk.sound; ran = talk.ran },
           tt,
         )
     stops (BadFrame kind place) going is low stop = absurd stop.2
     stops WriteFault going is low stop = absurd stop.2
 
     -- a piece came
-    pub reads : (came' : ℕ) (full : List ℕ) → Going seat number old mid before after commands count rest → buffer ≡ rest → (piece : List ℕ) × Moves mid new piece × ((length piece ≡ came') × (0 < came') × (count + came' ≤ 2 ^ 40) × (full ≡ buffer ++ piece))
+    pub reads : (came' : ℕ) (full : List ℕ) → Going seat number old mid before after commands count rest → buffer ≡ rest → (piece : List ℕ) × Moves mid new piece × ((length piece ≡ came') × (0 < came') × (count + came' ≤ MOST_READ) × (full ≡ buffer ++ piece))
         → Going seat number old new before after commands (count + came') (drop 0 full)
     reads came' full going is fetched =
         let all_is : rest ++ fetched.0 ≡ full = ap (λ b. b ++ fetched.0) (sym is) ∙ sym fetched.2.3 in (

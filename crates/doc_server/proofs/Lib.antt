@@ -1,7 +1,4 @@
 pub mod Growth
-pub mod Fitting
-pub mod Keeping
-pub mod Scripts
+pub mod Carrying
 pub mod Conversation
 pub mod Whole
-pub mod Carrying

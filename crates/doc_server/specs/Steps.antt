@@ -1,13 +1,13 @@
 -- What one step of a conversation does. Links between contracts; nobody has to read them for the main clause.
-use Rattle.std.specs.Prelude.{ℕ, ◌≡◌, ◌≢◌, ◌+◌, ◌≤◌, ◌<◌, ◌^◌, List, [], ◌∷◌, ◌++◌, length, take, Result, Ok, Err}
+use Rattle.std.specs.Prelude.{ℕ, ◌≡◌, ◌≢◌, ◌+◌, ◌≤◌, ◌<◌, List, [], ◌∷◌, ◌++◌, length, take, Result, Ok, Err}
 use Rattle.outside.specs.Told.{Grows, Shrinks}
 use Rattle.op_msg.specs.declared.message.Message.{Message}
 use Rattle.doc_model.specs.declared.op.OpReply.{OpReply}
 use Rattle.doc_model.specs.Store.{Store}
 use Rattle.doc_model.specs.Run.{run}
-use Rattle.doc_server.specs.Answers.{answer}
-use Rattle.doc_server.specs.Script.{ops_of, numbered, AreReplied}
-use Rattle.doc_server.specs.Talk.{Scene}
+use Rattle.dispatcher.specs.Answers.{answer}
+use Rattle.dispatcher.specs.Script.{ops_of, numbered, AreReplied}
+use Rattle.doc_server.specs.Talk.{MOST_READ, Scene}
 use Rattle.doc_server.specs.declared.serve.Replied.{Replied}
 use Rattle.doc_server.specs.declared.serve.Replied.TheVariants as replied
 use Rattle.doc_server.specs.declared.why.Why.{Why}
@@ -33,16 +33,16 @@ Answers replied.NoMemory m k old new before after =
 
 -- how the input ends in a fetch: with `count` bytes before it, `buffer` those that are not used, `piece` those that came
 abbrev pub Stops : Why → ℕ → List ℕ → List ℕ → Type 0
-Stops why.Closed count buffer piece = (piece ≡ []) × (buffer ≡ []) × (count < 2 ^ 40)
-Stops (why.Truncated size) count buffer piece = (piece ≡ []) × (size ≡ length buffer) × (buffer ≢ []) × (count < 2 ^ 40)
-Stops why.ReadFault count buffer piece = (piece ≡ []) × (count < 2 ^ 40)
-Stops why.Long count buffer piece = (piece ≡ []) × (count ≡ 2 ^ 40)
+Stops why.Closed count buffer piece = (piece ≡ []) × (buffer ≡ []) × (count < MOST_READ)
+Stops (why.Truncated size) count buffer piece = (piece ≡ []) × (size ≡ length buffer) × (buffer ≢ []) × (count < MOST_READ)
+Stops why.ReadFault count buffer piece = (piece ≡ []) × (count < MOST_READ)
+Stops why.Long count buffer piece = (piece ≡ []) × (count ≡ MOST_READ)
 Stops why.NoMemory count buffer piece = Unit {0}
 Stops _ count buffer piece = ⊥
 
 -- a piece came and was kept, or the input ends
 abbrev pub Fetches : Result ℕ Why → List ℕ → ℕ → List ℕ → List ℕ → Type 0
-Fetches (Ok came) piece count buffer buffer' = (length piece ≡ came) × (0 < came) × (count + came ≤ 2 ^ 40) × (buffer' ≡ buffer ++ piece)
+Fetches (Ok came) piece count buffer buffer' = (length piece ≡ came) × (0 < came) × (count + came ≤ MOST_READ) × (buffer' ≡ buffer ++ piece)
 Fetches (Err end) piece count buffer buffer' = Stops end count buffer piece
 
 -- a link gave a piece, and took nothing

@@ -1,28 +1,37 @@
 -- One connection: what came, its script, what was written, what it made of the store, and how it ended.
-use Rattle.std.specs.Prelude.{ℕ, ◌≡◌, ◌≢◌, ◌<◌, ◌^◌, List, [], ◌++◌, length, take, Option, Some}
+use Rattle.std.specs.Prelude.{ℕ, ◌≡◌, ◌≢◌, ◌⊎◌, ◌<◌, ◌^◌, List, [], ◌∷◌, ◌++◌, length, take, Option, Some}
 use Rattle.outside.specs.Told.{Grows, Shrinks, Tells}
 use Rattle.outside.specs.Causes.{Rose}
 use Rattle.op_msg.specs.Stream.{in_order}
 use Rattle.op_msg.specs.Reading.{short, fault}
 use Rattle.doc_model.specs.Store.{Store}
 use Rattle.doc_model.specs.Run.{run}
-use Rattle.doc_server.specs.Script.{Executed, messages, moments, ops_from, IsSound, bytes_of}
+use Rattle.dispatcher.specs.Script.{Executed, messages, moments, ops_from, IsSound, bytes_of}
 use Rattle.doc_server.specs.declared.why.Why.{Why}
 use Rattle.doc_server.specs.declared.why.Why.TheVariants.{Closed, Truncated, BadFrame, ReadFault, WriteFault, Long, NoMemory}
+
+-- the most bytes that are read of one connection
+abbrev pub MOST_READ : ℕ
+MOST_READ = 2 ^ 40
 
 -- all of it was written, or a front of it where a write failed
 abbrev pub Wrote : Why → Option (List ℕ) → Option (List ℕ) → List ℕ → Type 0
 Wrote WriteFault old new all = (sent : ℕ) × Grows old new (take sent all)
 Wrote why old new all = Grows old new all
 
+-- all of their moments were given; where memory ran out, perhaps that of one message more, which was not executed
+abbrev pub Timed : Why → Option (List ℕ) → Option (List ℕ) → List ℕ → Type 0
+Timed NoMemory old new all = Grows old new all ⊎ ((now : ℕ) × Grows old new (all ++ now ∷ []))
+Timed why old new all = Grows old new all
+
 -- how it ended, as all the bytes that came show, and those of them that stand behind the executed messages
 abbrev pub Ends : Why → List ℕ → List ℕ → Type 0
-Ends Closed all rest = (rest ≡ []) × (length all < 2 ^ 40)
-Ends (Truncated size) all rest = (size ≡ length rest) × (rest ≢ []) × short rest × (length all < 2 ^ 40)
+Ends Closed all rest = (rest ≡ []) × (length all < MOST_READ)
+Ends (Truncated size) all rest = (size ≡ length rest) × (rest ≢ []) × short rest × (length all < MOST_READ)
 Ends (BadFrame kind place) all rest = fault rest ≡ Some (kind, place)
-Ends ReadFault all rest = short rest × (length all < 2 ^ 40)
+Ends ReadFault all rest = short rest × (length all < MOST_READ)
 Ends WriteFault all rest = Unit {0}
-Ends Long all rest = short rest × (length all ≡ 2 ^ 40)
+Ends Long all rest = short rest × (length all ≡ MOST_READ)
 Ends NoMemory all rest = Unit {0}
 
 -- the input came to its end where this end says so
@@ -37,11 +46,6 @@ Faults ReadFault reads reads' writes writes' = Rose reads reads' × (writes' ≡
 Faults WriteFault reads reads' writes writes' = (reads' ≡ reads) × Rose writes writes'
 Faults why reads reads' writes writes' = (reads' ≡ reads) × (writes' ≡ writes)
 
--- all of their moments were given; where memory ran out, perhaps that of the message that was not executed too
-abbrev pub Timed : Why → Option (List ℕ) → Option (List ℕ) → List ℕ → Type 0
-Timed NoMemory old new all = (more : List ℕ) × Grows old new (all ++ more)
-Timed why old new all = Grows old new all
-
 -- what a link tells at one moment: its bytes, and the moments of its clock
 pub record Scene : Type 0 where
   pub took : Option (List ℕ)
@@ -52,7 +56,8 @@ pub record Scene : Type 0 where
 abbrev pub scene : Option (List ℕ) → Option (List ℕ) → Option (List ℕ) → Option (List ℕ) → Scene
 scene took left wrote moments = record { took = took; left = left; wrote = wrote; moments = moments }
 
--- the connection of that seat and number, from where it and the store began to where they stand
+-- The connection of that seat and number, from where it and the store began to where they stand: these bytes came, of what was left; they are
+-- the messages of the script and a rest; their answers were written, and their moments given; and their operations were a run of the store.
 pub record Talk (seat number : ℕ) (old new : Scene) (before after : Store) (why : Why) (commands : ℕ) (all : List ℕ) (script : List Executed) (rest : List ℕ) : Type 0 where
   pub taken : Grows old.took new.took all
   pub came : Shrinks old.left new.left all

@@ -1,11 +1,12 @@
 ghost use Rattle.std.specs.Prelude.{◌≡◌, false, map, is_some, string_bytes, IfSome, IfNone};
-ghost use Rattle.doc_server.specs.Kept.{store_of};
+ghost use Rattle.doc_model.specs.Kept.{store_of};
+ghost use Rattle.doc_model.specs.Store.{empty_store};
 ghost use Rattle.doc_server.specs.Talk.{Faults, scene};
-ghost use Rattle.doc_server.specs.Program.{is_pipe, status_of, seen, Spoken, AnswersAll};
+ghost use Rattle.doc_server.specs.Program.{is_pipe, status_of, Conversed};
 
-use crate::plain_store::PlainStore;
 use crate::serve::{Ended, serve_link};
 use crate::why::Why;
+use doc_model::PlainStore;
 use outside::World;
 use std::alloc::Global;
 
@@ -53,7 +54,7 @@ pub fn ferret<W: World>(alloc: Global, words: &[String], world: &mut W) -> Finis
     // The words decide whether the console is served.
     ensures words { is_some result.console ≡ is_pipe (map string_bytes words.now) }
     ensures given { W.is_given world.new ≡ is_some result.console }
-    ensures bad_words { IfNone result.console (result.status ≡ 1) }
+    ensures bad_words { IfNone result.console ((result.status ≡ 1) × (store_of result.store ≡ empty_store)) }
 
     // The status tells how its connection ended.
     ensures status { IfSome result.console (λ e. result.status ≡ status_of e.why) }
@@ -61,16 +62,11 @@ pub fn ferret<W: World>(alloc: Global, words: &[String], world: &mut W) -> Finis
     ensures faults { IfSome result.console (λ e. Faults e.why
         0 (W.Console.read_faults e.link) 0 (W.Console.write_faults e.link)) }
 
-    // What came are messages and a rest, what was written are the answers, and the replies in them are a run of the
-    // one-thread store from the empty one to what is left.
-    ensures spoken { IfSome result.console (λ e. Spoken 0 0 (seen (scene (W.Console.taken e.link)
-        (W.Console.left e.link) (W.Console.written e.link) (W.Console.moments e.link))
-        (store_of result.store) e.why e.commands)) }
-
-    // Every message of the whole input is answered, and the end is as its rest shows.
-    ensures whole { IfSome result.console (λ e. AnswersAll 0 0 (W.input world.old)
-        (seen (scene (W.Console.taken e.link) (W.Console.left e.link) (W.Console.written e.link)
-        (W.Console.moments e.link)) (store_of result.store) e.why e.commands)) }
+    // What came of the input are messages and a rest, what was written are their answers, the replies in them are a run of the one-thread
+    // store from the empty one to what is left, and nothing of the input is left that could be answered, unless it was cut off.
+    ensures conversed { IfSome result.console (λ e. Conversed 0 0 (W.input world.old)
+        (scene (W.Console.taken e.link) (W.Console.left e.link) (W.Console.written e.link) (W.Console.moments e.link))
+        (store_of result.store) e.why e.commands) }
 {
     let mut store = PlainStore::new(alloc);
     if is_pipe(words) {

@@ -1,17 +1,17 @@
 ghost use Rattle.std.specs.Prelude.{◌≡◌, ◌≤◌, ◌<◌, ◌==◌, ◌+◌, ◌^◌, ℕ, if◌then◌else◌, List, length, take, drop, IfErr, OnOk, OnErr};
 ghost use Rattle.outside.specs.Told.{Grows};
 ghost use Rattle.outside.specs.Causes.{HasCause};
-ghost use Rattle.doc_server.specs.Kept.{store_of};
+ghost use Rattle.doc_model.specs.Kept.{store_of};
 ghost use Rattle.doc_server.specs.Talk.{scene, Talks, AtEnd, Faults};
 ghost use Rattle.doc_server.specs.Steps.{Fetches, Moves, Answers, end_of, fault_of};
 
-use crate::answers::answer;
-use crate::plain_store::PlainStore;
 use crate::why::Why;
-use bson_values::{head, tail};
+use dispatcher::answer;
+use doc_model::PlainStore;
 use op_msg::{Message, Taken, take};
 use outside::{Failed, Link};
 use std::alloc::Global;
+use std_words::{head, tail};
 
 /// A connection that was served to its end.
 #[derive(Debug, Drop)]

@@ -1,5 +1,5 @@
 use Rattle.std.proofs.Common.{◌-◌, ◌+◌, ◌*◌, ◌≡◌, ◌≤◌, ◌^◌, length, drop}
-use Rattle.doc_server.specs.Kept.{store_of}
+use Rattle.doc_model.specs.Kept.{store_of}
 use Rattle.doc_server.specs.Talk.{scene}
 use Rattle.doc_server.proofs.Conversation.{Going}
 use Rattle.doc_server.proofs.serve.converse.Given as goal

@@ -1,5 +1,5 @@
-use Rattle.doc_server.proofs.Carrying.{on-err, refused-keeps, nobody}
-use Rattle.doc_server.proofs.answers.insert.Goals as goal
+use Rattle.dispatcher.proofs.Carrying.{on-err, refused-keeps, nobody}
+use Rattle.dispatcher.proofs.answers.insert.Goals as goal
 
 pub returns-in-Refused-clause-err : goal.returns-in-Refused-clause-err
 returns-in-Refused-clause-err c = on-err _ _ (refused-keeps _ _ _ _ _ c.in-Refused.ensures.step)

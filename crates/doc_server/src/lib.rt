@@ -1,4 +1,4 @@
-//! Service: messages in, answers out: one connection, and the program over it.
+//! Service: the loop that moves bytes: one connection, and the program over it.
 #![tactic(auto)]
 
 mod laws;
@@ -11,7 +11,5 @@ pub use program::{Finished, ferret};
 pub use serve::{Ended, serve_link};
 pub use why::Why;
 
-#[cfg(test)]
-mod commands;
 #[cfg(test)]
 mod tests;

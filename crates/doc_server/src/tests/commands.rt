@@ -1,4 +1,4 @@
-use crate::tests::{PING, joined, outcome, piped};
+use crate::tests::streams::{PING, joined, outcome, piped};
 use bson_values::{Bytes, Document, List, NoMemory, Room, Text, Value};
 use bson_wire::write_in;
 use std::alloc::Global;

@@ -9,6 +9,7 @@ use Rattle.bson_wire.specs.declared.foreign.Foreign.{Foreign}
 use Rattle.bson_wire.proofs.Bytes.{IsBytes, IsBytes-rest}
 use Rattle.bson_wire.proofs.Steps.{same_Ok, bind_ok}
 use Rattle.bson_wire.specs.Reading.{◌>>=◌}
+use Rattle.op_msg.specs.Limits.{MOST_MESSAGE}
 use Rattle.op_msg.specs.declared.message.Sequence.{Sequence}
 use Rattle.op_msg.specs.declared.message.Message.{Message}
 use Rattle.op_msg.specs.Stream.{IsDocument, AreInOrder, IsSequence, AreSections}
@@ -102,7 +103,7 @@ same-parts m sequences foreign sequences_is foreign_is =
     ap (λ (s : List Sequence). Ok (record { request = m.request; body = m.body; sequences = s; foreign = foreign })) (sym sequences_is)
     ∙ ap (λ (f : Option Foreign). Ok (record { request = m.request; body = m.body; sequences = m.sequences; foreign = f })) (sym foreign_is)
 
-pub content-again : (end place : ℕ) (bytes : List ℕ) (it : Message) → end ≤ 48000000 → AreSections place bytes it → place + length bytes ≡ end → content_at it.request end bytes ≡ Ok it
+pub content-again : (end place : ℕ) (bytes : List ℕ) (it : Message) → end ≤ MOST_MESSAGE → AreSections place bytes it → place + length bytes ≡ end → content_at it.request end bytes ≡ Ok it
 unfolding end_at
 content-again end place bytes it few is at =
     let rest : List ℕ = 0 ∷ is.document ++ is.after in

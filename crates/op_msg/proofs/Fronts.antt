@@ -7,10 +7,12 @@ use Rattle.std.proofs.lemmas.List.{take-append-drop, take-append-le, drop-append
 use Rattle.byteorder.specs.Endian.{little_number}
 use Rattle.byteorder.specs.Numbers.{little_from-append}
 use Rattle.bson_wire.proofs.Bytes.{IsBytes, IsBytes-front}
+use Rattle.op_msg.specs.Limits.{MOST_MESSAGE}
 use Rattle.op_msg.specs.declared.message.Message.{Message}
 use Rattle.op_msg.specs.declared.message.BadKind.TheVariants.{Length, OpCode}
 use Rattle.op_msg.specs.Stream.{InRange, message, BeginsNone}
-use Rattle.op_msg.specs.Reading.{Fault, stated, early, short, message_at, fault_of, fault}
+use Rattle.op_msg.specs.Reading.{Fault, stated, early, short, message_at, fault}
+use Rattle.std_words.specs.Steps.{fault_of}
 use Rattle.op_msg.specs.Front.{Begins}
 use Rattle.op_msg.proofs.Messages.{placed, message-again, message-takes}
 
@@ -57,10 +59,10 @@ opcode-append bytes more long =
 pub early-more : (bytes more : List ℕ) (f : Fault) → early bytes ≡ Some f → early (bytes ++ more) ≡ Some f
 unfolding early
 early-more bytes more f is =
-    let few = some-not-few (ltb (length bytes) 4) (ltb (stated bytes) 16) (ltb 48000000 (stated bytes)) (ltb (length bytes) 16) (eqb (little_number 4 (drop 12 bytes)) 2013) f is in
+    let few = some-not-few (ltb (length bytes) 4) (ltb (stated bytes) 16) (ltb MOST_MESSAGE (stated bytes)) (ltb (length bytes) 16) (eqb (little_number 4 (drop 12 bytes)) 2013) f is in
     let long : 4 ≤ length bytes = ltb-false _ _ few in
     let longer = length-append bytes more in
-    let kept = by-more (ltb (length bytes) 4) (ltb (stated bytes) 16) (ltb 48000000 (stated bytes)) (ltb (length bytes) 16) (ltb (length (bytes ++ more)) 16) (eqb (little_number 4 (drop 12 bytes)) 2013) (eqb (little_number 4 (drop 12 (bytes ++ more))) 2013) f is
+    let kept = by-more (ltb (length bytes) 4) (ltb (stated bytes) 16) (ltb MOST_MESSAGE (stated bytes)) (ltb (length bytes) 16) (ltb (length (bytes ++ more)) 16) (eqb (little_number 4 (drop 12 bytes)) 2013) (eqb (little_number 4 (drop 12 (bytes ++ more))) 2013) f is
     (λ all. (le-ltb _ _ (omega (arith, ltb-false (length bytes) 16 all, longer)), ap (λ n. eqb n 2013) (opcode-append bytes more (ltb-false (length bytes) 16 all)))) in
     let still : ltb (length (bytes ++ more)) 4 ≡ false = le-ltb _ _ (omega (arith, long, longer)) in
     rw (still, stated-append bytes more long) kept
@@ -75,7 +77,7 @@ unfolding early
 early-none bytes long is =
     let few : ltb (length bytes) 4 ≡ false = le-ltb _ _ (omega arith) in
     let less : ltb (length bytes) 16 ≡ false = le-ltb _ _ long in
-    let tests = none-by (ltb (stated bytes) 16) (ltb 48000000 (stated bytes)) (eqb (little_number 4 (drop 12 bytes)) 2013) (rw (few, less) at is) in
+    let tests = none-by (ltb (stated bytes) 16) (ltb MOST_MESSAGE (stated bytes)) (eqb (little_number 4 (drop 12 bytes)) 2013) (rw (few, less) at is) in
     record { in_range = (ltb-false _ _ tests.0, ltb-false _ _ tests.1); opcode = eqb-true _ _ tests.2 }
 
 none-early : (bytes : List ℕ) → 16 ≤ length bytes → Header bytes → early bytes ≡ None
@@ -84,7 +86,7 @@ none-early bytes long header =
     let few : ltb (length bytes) 4 ≡ false = le-ltb _ _ (omega arith) in
     let less : ltb (length bytes) 16 ≡ false = le-ltb _ _ long in
     let low : ltb (stated bytes) 16 ≡ false = le-ltb _ _ header.in_range.0 in
-    let high : ltb 48000000 (stated bytes) ≡ false = le-ltb _ _ header.in_range.1 in
+    let high : ltb MOST_MESSAGE (stated bytes) ≡ false = le-ltb _ _ header.in_range.1 in
     rw (few, low, high, less, header.opcode) refl
 
 -- ---- a message at the front
@@ -192,7 +194,7 @@ module _ (bytes : List ℕ) (fits : IsBytes bytes) (long : 16 ≤ length bytes) 
       }
 
 -- the same with what `take` names
-pub taken-whole : (bytes behind front : List ℕ) (used : ℕ) (m : Message) → IsBytes bytes → used ≡ stated bytes → 16 ≤ used → used ≤ 48000000 → 16 ≤ length bytes → little_number 4 behind ≡ 2013 → behind ≡ drop 12 bytes → used ≤ length bytes → front ≡ take used bytes → message_at front ≡ Ok m
+pub taken-whole : (bytes behind front : List ℕ) (used : ℕ) (m : Message) → IsBytes bytes → used ≡ stated bytes → 16 ≤ used → used ≤ MOST_MESSAGE → 16 ≤ length bytes → little_number 4 behind ≡ 2013 → behind ≡ drop 12 bytes → used ≤ length bytes → front ≡ take used bytes → message_at front ≡ Ok m
     → Begins bytes m used
 taken-whole bytes behind front used m fits used_is low high long opcode behind_is all front_is is =
     let header : Header bytes = record { in_range = (omega (arith, used_is), omega (arith, used_is)); opcode = ap (little_number 4) (sym behind_is) ∙ opcode } in

@@ -12,7 +12,7 @@ use Rattle.op_msg.specs.Reading.{Fault, Found, many_at}
 use Rattle.op_msg.specs.Front.{Fails}
 use Rattle.op_msg.specs.declared.refused.Refused.{Refused}
 use Rattle.op_msg.specs.declared.refused.Refused.TheVariants as refused
-use Rattle.op_msg.proofs.Steps.{branch}
+use Rattle.std_words.proofs.Faults.{branch_ok}
 
 or-none : (foreign : Option Foreign) → option_or foreign None ≡ foreign
 or-none None = refl
@@ -58,7 +58,7 @@ module _ {A : Type 0} (goes_on : List ℕ → Bool) (one : List ℕ → Result (
     unfolding many_at
     many-takes taken stops zero bytes found fits near few is = at_found (Ends bytes) ([], None, bytes) found is ([], refl, (refl, refl), stops bytes (omega arith))
     many-takes taken stops (suc most) bytes found fits near few is =
-        elim (branch (goes_on bytes) (one bytes >>= λ it. many_at goes_on one most it.2 >>= λ others. Ok (it.0 ∷ others.0, option_or it.1 others.1, others.2)) (Ok ([], None, bytes)) found is) [
+        elim (branch_ok (goes_on bytes) (one bytes >>= λ it. many_at goes_on one most it.2 >>= λ others. Ok (it.0 ∷ others.0, option_or it.1 others.1, others.2)) (Ok ([], None, bytes)) found is) [
           | inl goes ↦
               let first = bind_ok (one bytes) (λ it. many_at goes_on one most it.2 >>= λ others. Ok (it.0 ∷ others.0, option_or it.1 others.1, others.2)) found goes.1 in
               let others = bind_ok (many_at goes_on one most first.0.2) (λ others. Ok (first.0.0 ∷ others.0, option_or first.0.1 others.1, others.2)) found first.2 in

@@ -11,7 +11,7 @@ use Rattle.op_msg.specs.declared.refused.Refused.{Refused}
 use Rattle.op_msg.specs.declared.refused.Refused.TheVariants as refused
 use Rattle.op_msg.specs.Reading.{Fault, Found, document_in, documents_at, sequence_at, sequences_at, behind_those}
 use Rattle.op_msg.specs.Front.{Fails}
-use Rattle.op_msg.proofs.Steps.{empty}
+use Rattle.std_words.proofs.Parts.{empty}
 use Rattle.op_msg.proofs.InOrder.{Goes, goes-start, goes-end, goes-fails, goes-more}
 
 -- ---- documents

@@ -15,11 +15,13 @@ use Rattle.bson_wire.proofs.Names.{name_takes, name_again}
 use Rattle.bson_wire.proofs.Numbers.{number_takes}
 use Rattle.bson_wire.proofs.Values.{Doc}
 use Rattle.bson_wire.proofs.Steps.{same_Ok, bind_ok, unless_ok, when_ok, at_found}
+use Rattle.op_msg.specs.Limits.{MOST_MESSAGE}
 use Rattle.op_msg.specs.declared.message.Sequence.{Sequence}
 use Rattle.op_msg.specs.declared.message.BadKind.TheVariants.{Section, Body}
 use Rattle.op_msg.specs.Stream.{moved, IsDocument, AreInOrder, IsSequence}
 use Rattle.op_msg.specs.Reading.{Fault, Found, many_at, in_message, document_in, documents_at, sized_at, identifier_at, sequence_at, sequences_at, body_at, end_at}
-use Rattle.op_msg.proofs.Steps.{branch, empty}
+use Rattle.std_words.proofs.Parts.{empty}
+use Rattle.std_words.proofs.Faults.{branch_ok}
 use Rattle.op_msg.proofs.Documents.{spelled-long}
 use Rattle.op_msg.proofs.InOrder.{many-takes, many-again}
 
@@ -179,7 +181,7 @@ sequence-takes end section bytes found fits near here is =
     let are = documents-take (end - length part.0.1) section name.0.1 docs.0 fits-documents within docs.1 in
     sequence-is end section bytes name.0.0 name.0.1 found part.0 docs.0 near here sized cut.0 cut.1 are docs.2
 
-sequence-again : (end section : ℕ) (piece rest : List ℕ) (it : Sequence) (own : Option Foreign) → end ≤ 48000000 → IsSequence section piece it own → section + length (piece ++ rest) ≡ end
+sequence-again : (end section : ℕ) (piece rest : List ℕ) (it : Sequence) (own : Option Foreign) → end ≤ MOST_MESSAGE → IsSequence section piece it own → section + length (piece ++ rest) ≡ end
     → (get_or (piece ++ rest) 0 0 ≡ 1) × (sequence_at end section (drop 1 (piece ++ rest)) ≡ Ok (it, own, rest)) × (0 < length piece)
 unfolding sequence_at
 sequence-again end section piece rest it own few is at =
@@ -223,7 +225,7 @@ module _ (end : ℕ) where
       let all = many-takes begins next IsSequence end next-taken none-begins (length bytes) bytes found fits near (omega arith) is in
       (all.0, all.1, all.2)
 
-  module _ (few : end ≤ 48000000) where
+  module _ (few : end ≤ MOST_MESSAGE) where
     next-again : (place : ℕ) (piece rest : List ℕ) (it : Sequence) (own : Option Foreign) → IsSequence place piece it own → place + length (piece ++ rest) ≡ end
         → (begins (piece ++ rest) ≡ true) × (next (piece ++ rest) ≡ Ok (it, own, rest)) × (0 < length piece)
     next-again place piece rest it own is at =
@@ -262,7 +264,7 @@ module _ (end : ℕ) where
   pub end-takes : (bytes : List ℕ) (none : Unit {0}) → end_at end bytes ≡ Ok none → bytes ≡ []
   unfolding end_at
   end-takes bytes none is =
-      elim (branch (eqb (length bytes) 0) (Ok tt) (body_at end bytes >>= λ second. Err (Body, end - length bytes)) none is) [
+      elim (branch_ok (eqb (length bytes) 0) (Ok tt) (body_at end bytes >>= λ second. Err (Body, end - length bytes)) none is) [
         | inl alone ↦ empty bytes (eqb-true _ _ alone.0)
         | inr more ↦ absurd (second-not (end - length bytes) (body_at end bytes) none more.1)
       ]

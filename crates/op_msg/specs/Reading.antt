@@ -138,4 +138,5 @@ message_at bytes =
 -- the first fault, in the order in which faults are looked at; none where a message stands at the front, or a part of one
 unfoldable pub fault : List ℕ → Option Fault
 fault bytes = option_or (early bytes)
-    (if nat_lt (length bytes) LEAST_MESSAGE || nat_lt (length bytes) (stated bytes) then None else fault_of (message_at (take (stated bytes) bytes)))
+    (if nat_lt (length bytes) LEAST_MESSAGE || nat_lt (length bytes) (stated bytes) then None
+    else fault_of (message_at (take (stated bytes) bytes)))

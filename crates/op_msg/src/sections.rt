@@ -2,7 +2,8 @@ ghost use Rattle.std.specs.Prelude.{◌≡◌, ◌≤◌, ◌<◌, ◌+◌, ◌-
 ghost use Rattle.bson_wire.specs.Reading.{Before, document_at};
 ghost use Rattle.op_msg.specs.Limits.{MOST_MESSAGE, MOST_NESTED};
 ghost use Rattle.op_msg.specs.Stream.{moved};
-ghost use Rattle.op_msg.specs.Reading.{in_message, document_in, documents_at, sized_at, sequence_at, sequences_at, body_at, end_at, content_at, behind_those};
+ghost use Rattle.op_msg.specs.Reading.{in_message, document_in, documents_at, sized_at, sequence_at, sequences_at, behind_those};
+ghost use Rattle.op_msg.specs.Reading.{body_at, end_at, content_at};
 ghost use Rattle.op_msg.specs.Front.{Gives};
 
 use crate::message::{BadKind, Message, Sequence};

@@ -2,5 +2,6 @@ mod faults;
 mod foreign;
 mod replies;
 mod samples;
+mod seen;
 mod sequences;
 mod whole;

@@ -1,5 +1,5 @@
 //! The bytes of messages, and two builders of them.
-ghost use Rattle.std.specs.Prelude.{◌≤◌, length};
+ghost use Rattle.std.specs.Prelude.{◌≤◌};
 
 use bson_values::{Bytes, NoMemory};
 use std::alloc::Global;
@@ -9,28 +9,6 @@ pub static PING: [u8; 51] = [
     0x33, 0, 0, 0, 1, 0, 0, 0, 0, 0, 0, 0, 0xdd, 7, 0, 0, 0, 0, 0, 0, 0, 0x1e, 0, 0, 0, 0x10, 0x70,
     0x69, 0x6e, 0x67, 0, 1, 0, 0, 0, 2, 0x24, 0x64, 0x62, 0, 6, 0, 0, 0, 0x61, 0x64, 0x6d, 0x69,
     0x6e, 0, 0,
-];
-
-/// Two sections of kind 0 with `{}`.
-pub static TWO_BODIES: [u8; 32] = [
-    0x20, 0, 0, 0, 1, 0, 0, 0, 0, 0, 0, 0, 0xdd, 7, 0, 0, 0, 0, 0, 0, 0, 5, 0, 0, 0, 0, 0, 5, 0, 0,
-    0, 0,
-];
-
-/// A section of kind 0 with `{}`, and one of kind 2.
-pub static KIND_2: [u8; 27] = [
-    0x1b, 0, 0, 0, 1, 0, 0, 0, 0, 0, 0, 0, 0xdd, 7, 0, 0, 0, 0, 0, 0, 0, 5, 0, 0, 0, 0, 2,
-];
-
-/// A section of kind 0 with three bytes.
-pub static THREE_BYTES: [u8; 24] = [
-    0x18, 0, 0, 0, 1, 0, 0, 0, 0, 0, 0, 0, 0xdd, 7, 0, 0, 0, 0, 0, 0, 0, 5, 0, 0,
-];
-
-/// A body whose field `b` is the bool 02.
-pub static BOOL_02: [u8; 30] = [
-    0x1e, 0, 0, 0, 1, 0, 0, 0, 0, 0, 0, 0, 0xdd, 7, 0, 0, 0, 0, 0, 0, 0, 9, 0, 0, 0, 8, 0x62, 0, 2,
-    0,
 ];
 
 /// `{}` with the flag of bit 31, which may be ignored.
@@ -57,10 +35,9 @@ pub static TWO_SEQUENCES: [u8; 44] = [
 ];
 
 /// A message with these sections, which begin at place 20.
-pub fn message(alloc: Global, sections: &[u8]) -> Result<Bytes, NoMemory>
-    requires { length sections.now ≤ 100 }
-{
-    let mut bytes = Bytes::of(alloc, &[20 + sections.len() as u8, 0, 0, 0])?;
+pub fn message(alloc: Global, sections: &[u8]) -> Result<Bytes, NoMemory> {
+    let size = sections.len().min(1000) as u32 + 20;
+    let mut bytes = Bytes::of(alloc, &size.to_le_bytes())?;
     bytes.extend(&[1, 0, 0, 0, 0, 0, 0, 0, 0xdd, 7, 0, 0, 0, 0, 0, 0])?;
     bytes.extend(sections)?;
     Ok(bytes)

@@ -7,7 +7,6 @@ use Rattle.bson_values.specs.declared.pairs.Pair.{Pair}
 use Rattle.bson_values.specs.declared.space.Space.{Space}
 use Rattle.bson_values.specs.declared.value.Value.{Value}
 use Rattle.bson_values.specs.Names.{same_space}
-use Rattle.case_tables.specs.declared.kinds.TheConstants.{DUPLICATE_KEY, TOO_MANY_COLLECTIONS, NUMBERS_SPENT}
 use Rattle.doc_model.specs.declared.op.OpReply.{OpReply}
 use Rattle.doc_model.specs.declared.op.OpReply.TheVariants.{Inserted, Refused}
 use Rattle.doc_model.specs.declared.collection.Collection.{Collection}
@@ -94,8 +93,8 @@ came : (reply : OpReply) (space : Space) (doc : Doc) (s t : Store) (found : Opti
 came reply space doc s t (Some c) found is = cases (has_id doc c.docs) refl (are_spent 1 s) refl
   where
     cases : (twice : Bool) → has_id doc c.docs ≡ twice → (spent : Bool) → are_spent 1 s ≡ spent → Came reply space doc s t
-    cases true there spent q = came-refused reply space doc s t DUPLICATE_KEY (rw there at is)
-    cases false there true q = came-refused reply space doc s t NUMBERS_SPENT (rw q at (rw there at is))
+    cases true there spent q = came-refused reply space doc s t 31 (rw there at is)
+    cases false there true q = came-refused reply space doc s t 33 (rw q at (rw there at is))
     cases false there false q =
         let done = rw q at (rw there at is) in
         let after = ap (λ (m : Meant). m.store.collections) done in
@@ -108,8 +107,8 @@ came reply space doc s t (Some c) found is = cases (has_id doc c.docs) refl (are
 came reply space doc s t None found is = cases (nat_le MOST_COLLECTIONS (length s.collections)) refl (are_spent 2 s) refl
   where
     cases : (full : Bool) → nat_le MOST_COLLECTIONS (length s.collections) ≡ full → (spent : Bool) → are_spent 2 s ≡ spent → Came reply space doc s t
-    cases true full spent q = came-refused reply space doc s t TOO_MANY_COLLECTIONS (rw full at is)
-    cases false full true q = came-refused reply space doc s t NUMBERS_SPENT (rw q at (rw full at is))
+    cases true full spent q = came-refused reply space doc s t 34 (rw full at is)
+    cases false full true q = came-refused reply space doc s t 33 (rw q at (rw full at is))
     cases false full false q =
         let done = rw q at (rw full at is) in
         let after = ap (λ (m : Meant). m.store.collections) done in

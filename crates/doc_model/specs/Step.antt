@@ -1,7 +1,6 @@
 -- One operation on the store.
 use Rattle.std.specs.Prelude.{ℕ, ◌≡◌, ◌+◌, ◌-◌, ◌^◌, Bool, if◌then◌else◌, nat_le, nat_lt, List, [], ◌∷◌, ◌++◌, length, Option, None, Some}
 use Rattle.history_lock.specs.declared.entry.Who.{Who}
-use Rattle.case_tables.specs.declared.kinds.TheConstants.{DUPLICATE_KEY, TOO_MANY_COLLECTIONS, NUMBERS_SPENT}
 use Rattle.bson_values.specs.declared.pairs.Pair.{Pair}
 use Rattle.bson_values.specs.declared.space.Space.{Space}
 use Rattle.bson_values.specs.declared.value.Value.{Value}
@@ -33,16 +32,20 @@ pub record Meant : Type 0 where
 abbrev pub refused : ℕ → Store → Meant
 refused kind s = record { reply = Refused kind; store = s }
 
--- the document goes last in the collection, by one number, or into one that is created last, by two
+-- The document goes last in the collection, by one number, or into one that is created last, by two. It is refused where
+-- another one has an equal `_id` (31), where no number is left (33), and where there are too many collections (34).
 abbrev pub inserted : Space → List (Pair Value) → Store → Option Collection → Meant
 inserted space doc s (Some c) =
-    if has_id doc c.docs then refused DUPLICATE_KEY s
-    else if are_spent 1 s then refused NUMBERS_SPENT s
+    if has_id doc c.docs then refused 31 s
+    else if are_spent 1 s then refused 33 s
     else record { reply = Inserted; store = record { collections = with_last space doc s.collections; next = s.next + 1 } }
 inserted space doc s None =
-    if nat_le MOST_COLLECTIONS (length s.collections) then refused TOO_MANY_COLLECTIONS s
-    else if are_spent 2 s then refused NUMBERS_SPENT s
-    else record { reply = Inserted; store = record { collections = s.collections ++ record { space = space; docs = doc ∷ [] } ∷ []; next = s.next + 2 } }
+    if nat_le MOST_COLLECTIONS (length s.collections) then refused 34 s
+    else if are_spent 2 s then refused 33 s
+    else record {
+      reply = Inserted;
+      store = record { collections = s.collections ++ record { space = space; docs = doc ∷ [] } ∷ []; next = s.next + 2 };
+    }
 
 -- what an operation is replied, and the store after it, where memory lasts
 abbrev pub meant : Who → ℕ → Op → Store → Meant

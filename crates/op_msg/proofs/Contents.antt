@@ -66,29 +66,62 @@ pub record Steps (request : ℤ) (end : ℕ) (bytes : List ℕ) (m : Message) : 
   pub body_read : body_at end front.2 ≡ Ok body
   pub back_read : sequences_at end body.2 ≡ Ok back
   pub end_read : end_at end back.2 ≡ Ok nothing
-  pub made : record { request = request; body = body.0; sequences = front.0 ++ back.0;
-      foreign = option_or front.1 (option_or body.1 back.1) } ≡ m
+  pub made : record {
+    request = request;
+    body = body.0;
+    sequences = front.0 ++ back.0;
+    foreign = option_or front.1 (option_or body.1 back.1);
+  } ≡ m
 
 steps : (request : ℤ) (end : ℕ) (bytes : List ℕ) (m : Message) → content_at request end bytes ≡ Ok m → Steps request end bytes m
 unfolding content_at
 steps request end bytes m is =
     let front = bind_ok (sequences_at end bytes) (λ before. body_at end before.2 >>= λ body. sequences_at end body.2
-        >>= λ after. end_at end after.2
-        >>= λ none. Ok (record { request = request; body = body.0; sequences = before.0 ++ after.0;
-        foreign = option_or before.1 (option_or body.1 after.1) })) m is in
+    >>= λ after. end_at end after.2
+    >>= λ none. Ok (record {
+      request = request;
+      body = body.0;
+      sequences = before.0 ++ after.0;
+      foreign = option_or before.1 (option_or body.1 after.1);
+    })) m is in
     let body = bind_ok (body_at end front.0.2) (λ body. sequences_at end body.2 >>= λ after. end_at end after.2
-        >>= λ none. Ok (record { request = request; body = body.0; sequences = front.0.0 ++ after.0;
-        foreign = option_or front.0.1 (option_or body.1 after.1) })) m front.2 in
+    >>= λ none. Ok (record {
+      request = request;
+      body = body.0;
+      sequences = front.0.0 ++ after.0;
+      foreign = option_or front.0.1 (option_or body.1 after.1);
+    })) m front.2 in
     let back = bind_ok (sequences_at end body.0.2) (λ after. end_at end after.2
-        >>= λ none. Ok (record { request = request; body = body.0.0; sequences = front.0.0 ++ after.0;
-        foreign = option_or front.0.1 (option_or body.0.1 after.1) })) m body.2 in
+    >>= λ none. Ok (record {
+      request = request;
+      body = body.0.0;
+      sequences = front.0.0 ++ after.0;
+      foreign = option_or front.0.1 (option_or body.0.1 after.1);
+    })) m body.2 in
     let ended = bind_ok (end_at end back.0.2)
-        (λ none. Ok (record { request = request; body = body.0.0; sequences = front.0.0 ++ back.0.0;
-        foreign = option_or front.0.1 (option_or body.0.1 back.0.1) })) m back.2 in
-    record { front = front.0; body = body.0; back = back.0; nothing = ended.0; front_read = front.1; body_read = body.1;
-        back_read = back.1; end_read = ended.1; made =
-        same_Ok (record { request = request; body = body.0.0; sequences = front.0.0 ++ back.0.0;
-        foreign = option_or front.0.1 (option_or body.0.1 back.0.1) }) m ended.2 }
+    (λ none. Ok (record {
+      request = request;
+      body = body.0.0;
+      sequences = front.0.0 ++ back.0.0;
+      foreign = option_or front.0.1 (option_or body.0.1 back.0.1);
+    })) m back.2 in
+    record {
+      front = front.0;
+      body = body.0;
+      back = back.0;
+      nothing = ended.0;
+      front_read = front.1;
+      body_read = body.1;
+      back_read = back.1;
+      end_read = ended.1;
+      made =
+          same_Ok (record {
+            request = request;
+            body = body.0.0;
+            sequences = front.0.0 ++ back.0.0;
+            foreign = option_or front.0.1 (option_or body.0.1 back.0.1);
+          }) m ended.2;
+    }
 
 -- steps that found something found sections
 steps-take : (request : ℤ) (end : ℕ) (bytes : List ℕ) (m : Message) → IsBytes bytes → length bytes ≤ end → Steps request end bytes m
@@ -100,11 +133,11 @@ steps-take request end bytes m fits near read =
     let middle = body-takes end read.front.2 read.body fits-body near-body read.body_read in
     let near-back = (behind-place end read.front.2 (0 ∷ middle.0) read.body.2 near-body middle.1).0 in
     let last = sequences-take end read.body.2 read.back
-        (IsBytes-rest (0 ∷ middle.0) read.body.2 read.front.2 middle.1 fits-body) near-back read.back_read in
+    (IsBytes-rest (0 ∷ middle.0) read.body.2 read.front.2 middle.1 fits-body) near-back read.back_read in
     sections-are end bytes first.0 middle.0 last.0 m read.front read.back read.body near first.1 first.2 middle.1 middle.2 last.1 last.2
-        (end-takes end read.back.2 read.nothing read.end_read)
+    (end-takes end read.back.2 read.nothing read.end_read)
     (ap (λ (m : Message). m.body) (sym read.made)) (ap (λ (m : Message). m.sequences) (sym read.made))
-        (ap (λ (m : Message). m.foreign) (sym read.made))
+    (ap (λ (m : Message). m.foreign) (sym read.made))
 
 pub content-takes : (request : ℤ) (end : ℕ) (bytes : List ℕ) (m : Message) → IsBytes bytes → length bytes ≤ end
     → content_at request end bytes ≡ Ok m → (m.request ≡ request) × AreSections (end - length bytes) bytes m
@@ -115,8 +148,12 @@ content-takes request end bytes m fits near is =
 -- what the four steps find is the message
 content-read : (request : ℤ) (end : ℕ) (bytes : List ℕ) (front back : Found (List Sequence)) (body : Found (List (Pair Value)))
     → sequences_at end bytes ≡ Ok front → body_at end front.2 ≡ Ok body → sequences_at end body.2 ≡ Ok back → end_at end back.2 ≡ Ok tt
-    → content_at request end bytes ≡ Ok (record { request = request; body = body.0; sequences = front.0 ++ back.0;
-        foreign = option_or front.1 (option_or body.1 back.1) })
+    → content_at request end bytes ≡ Ok (record {
+      request = request;
+      body = body.0;
+      sequences = front.0 ++ back.0;
+      foreign = option_or front.1 (option_or body.1 back.1);
+    })
 unfolding content_at
 content-read request end bytes front back body first second third nothing = rw (first, second, third, nothing) refl
 
@@ -135,12 +172,12 @@ content-again end place bytes it few is at =
     let lengths : length bytes ≡ length is.before + length rest = ap length is.whole ∙ length-append is.before rest in
     let lengths-rest = length-append (0 ∷ is.document) is.after in
     let front = sequences-again end few is.front place is.before rest is.ahead is.front_is
-        (ap (λ (b : List ℕ). place + length b) (sym is.whole) ∙ at) refl in
+    (ap (λ (b : List ℕ). place + length b) (sym is.whole) ∙ at) refl in
     let body = body-again end (place + length is.before) is.document is.after it.body is.own is.body (omega (arith, at, lengths)) in
     let nothing = append-nil is.after in
     let back = ap (sequences_at end) (sym nothing)
     ∙ sequences-again end few is.back (place + length is.before + 1 + length is.document) is.after [] is.behind is.back_is
-        (omega (arith, ap length nothing, at, lengths, lengths-rest)) refl in
+    (omega (arith, ap length nothing, at, lengths, lengths-rest)) refl in
     content-read it.request end bytes (is.front, is.ahead, rest) (is.back, is.behind, []) (it.body, is.own, is.after)
-        (ap (sequences_at end) is.whole ∙ front) body back refl
+    (ap (sequences_at end) is.whole ∙ front) body back refl
     ∙ same-parts it (is.front ++ is.back) (option_or is.ahead (option_or is.own is.behind)) is.sequences is.foreign

@@ -31,8 +31,12 @@ same-place place at is = cc
 pub fault-near : (bytes : List ℕ) (refused : ReadRefused) (at : ℕ) → Tells refused bytes → refused ≡ Malformed at → at ≤ length bytes
 fault-near bytes NoMemory at tells is = absurd cc
 fault-near bytes (Malformed place) at tells is =
-    omega (arith, same-place place at is, not-past place (length bytes) (document_at 128 (length bytes) bytes) tells
-    (document-not (length bytes) bytes))
+    omega (
+      arith,
+      same-place place at is,
+      not-past place (length bytes) (document_at 128 (length bytes) bytes) tells
+          (document-not (length bytes) bytes),
+    )
 
 -- a document has its length and its end byte
 pub spelled-long : (document : List ℕ) (doc : Doc) (foreigns : List Foreign) → spells document doc foreigns → 5 ≤ length document

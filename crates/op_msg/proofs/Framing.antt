@@ -20,7 +20,7 @@ front-one : (bytes one behind other behind' : List ℕ) (m n : Message) → byte
 front-one bytes one behind other behind' m n cut cut' is is' =
     let same : one ≡ other = message-front bytes one behind m cut is ∙ sym (message-front bytes other behind' n cut' is') in
     let rest : behind ≡ behind' = sym (drop_at one behind (length one) refl) ∙ ap (drop (length one)) (sym cut ∙ cut')
-        ∙ drop_at other behind' (length one) (ap length (sym same)) in
+    ∙ drop_at other behind' (length one) (ap length (sym same)) in
     (same_Ok m n (sym (message-again one m is) ∙ ap message_at same ∙ message-again other n is'), rest)
 
 frames-one : (bytes : List ℕ) (ms ns : List Message) (rest rest' : List ℕ) → in_order bytes ms rest → BeginsNone rest
@@ -45,9 +45,14 @@ none-empty m piece behind cut is = absurd (omega (arith, ap length cut, length-a
 -- more bytes came
 pub in_order-more : (bytes more rest : List ℕ) (ms : List Message) → in_order bytes ms rest → in_order (bytes ++ more) ms (rest ++ more)
 in_order-more bytes more rest [] same = ap (λ b. b ++ more) same
-in_order-more bytes more rest (m ∷ ms) found =
-    (found.0, found.1 ++ more, ap (λ b. b ++ more) found.2
-        ∙ append_assoc found.0 found.1 more, found.3, in_order-more found.1 more rest ms found.4)
+in_order-more bytes more rest (m ∷ ms) found = (
+  found.0,
+  found.1 ++ more,
+  ap (λ b. b ++ more) found.2
+      ∙ append_assoc found.0 found.1 more,
+  found.3,
+  in_order-more found.1 more rest ms found.4,
+)
 
 -- the rest has messages of its own
 pub in_order-append : (bytes middle rest : List ℕ) (ms ns : List Message) → in_order bytes ms middle → in_order middle ns rest
@@ -65,12 +70,12 @@ taken : (kept : List ℕ) (pieces : List (List ℕ)) (ms : List Message) (rest :
     → frames (kept ++ flat_map (λ (piece : List ℕ). piece) pieces) ms rest
 taken kept [] ms rest none found =
     subst (λ ns. frames (kept ++ []) ns rest) (sym found.0)
-        (record { order = append-nil kept ∙ found.1; none_more = subst BeginsNone found.1 none })
+    (record { order = append-nil kept ∙ found.1; none_more = subst BeginsNone found.1 none })
 taken kept (piece ∷ pieces) ms rest none found =
     let others = flat_map (λ (it : List ℕ). it) pieces in
     let later = taken found.2 pieces found.1 rest found.4.none_more found.5 in
     let now : in_order ((kept ++ piece) ++ others) found.0 (found.2 ++ others) =
-        in_order-more (kept ++ piece) others found.2 found.0 found.4.order in
+    in_order-more (kept ++ piece) others found.2 found.0 found.4.order in
     let all = in_order-append ((kept ++ piece) ++ others) (found.2 ++ others) rest found.0 found.1 now later.order in
     record {
       order = subst (λ ns. in_order (kept ++ (piece ++ others)) ns rest) (sym found.3)

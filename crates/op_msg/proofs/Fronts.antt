@@ -21,7 +21,7 @@ use Rattle.op_msg.proofs.Messages.{placed, message-again, message-takes}
 abbrev early_by : Bool → Bool → Bool → Bool → Bool → Option Fault
 early_by few low high less spoken =
     if few then None else if low then Some (Length, 0) else if high then Some
-        (Length, 0) else if less then None else if spoken then None else Some (OpCode, 12)
+    (Length, 0) else if less then None else if spoken then None else Some (OpCode, 12)
 
 same-some : (f g : Fault) → ◌≡◌ {A = Option Fault} (Some f) (Some g) → f ≡ g
 same-some f g is = cc
@@ -58,20 +58,22 @@ stated-append bytes more long = little_from-append 4 bytes more long
 opcode-append : (bytes more : List ℕ) → 16 ≤ length bytes → little_number 4 (drop 12 (bytes ++ more)) ≡ little_number 4 (drop 12 bytes)
 opcode-append bytes more long =
     ap (little_number 4) (drop-append-le 12 bytes more (omega arith))
-        ∙ little_from-append 4 (drop 12 bytes) more (omega (arith, length-drop 12 bytes))
+    ∙ little_from-append 4 (drop 12 bytes) more (omega (arith, length-drop 12 bytes))
 
 pub early-more : (bytes more : List ℕ) (f : Fault) → early bytes ≡ Some f → early (bytes ++ more) ≡ Some f
 unfolding early
 early-more bytes more f is =
     let few = some-not-few (ltb (length bytes) 4) (ltb (stated bytes) 16) (ltb MOST_MESSAGE (stated bytes)) (ltb (length bytes) 16)
-        (eqb (little_number 4 (drop 12 bytes)) 2013) f is in
+    (eqb (little_number 4 (drop 12 bytes)) 2013) f is in
     let long : 4 ≤ length bytes = ltb-false _ _ few in
     let longer = length-append bytes more in
     let kept = by-more (ltb (length bytes) 4) (ltb (stated bytes) 16) (ltb MOST_MESSAGE (stated bytes)) (ltb (length bytes) 16)
-        (ltb (length (bytes ++ more)) 16) (eqb (little_number 4 (drop 12 bytes)) 2013)
-        (eqb (little_number 4 (drop 12 (bytes ++ more))) 2013) f is
-    (λ all. (le-ltb _ _ (omega (arith, ltb-false (length bytes) 16 all, longer)),
-        ap (λ n. eqb n 2013) (opcode-append bytes more (ltb-false (length bytes) 16 all)))) in
+    (ltb (length (bytes ++ more)) 16) (eqb (little_number 4 (drop 12 bytes)) 2013)
+    (eqb (little_number 4 (drop 12 (bytes ++ more))) 2013) f is
+    (λ all. (
+      le-ltb _ _ (omega (arith, ltb-false (length bytes) 16 all, longer)),
+      ap (λ n. eqb n 2013) (opcode-append bytes more (ltb-false (length bytes) 16 all)),
+    )) in
     let still : ltb (length (bytes ++ more)) 4 ≡ false = le-ltb _ _ (omega (arith, long, longer)) in
     rw (still, stated-append bytes more long) kept
 
@@ -86,7 +88,7 @@ early-none bytes long is =
     let few : ltb (length bytes) 4 ≡ false = le-ltb _ _ (omega arith) in
     let less : ltb (length bytes) 16 ≡ false = le-ltb _ _ long in
     let tests = none-by (ltb (stated bytes) 16) (ltb MOST_MESSAGE (stated bytes)) (eqb (little_number 4 (drop 12 bytes)) 2013)
-        (rw (few, less) at is) in
+    (rw (few, less) at is) in
     record { in_range = (ltb-false _ _ tests.0, ltb-false _ _ tests.1); opcode = eqb-true _ _ tests.2 }
 
 none-early : (bytes : List ℕ) → 16 ≤ length bytes → Header bytes → early bytes ≡ None
@@ -113,9 +115,9 @@ module _ (bytes piece behind : List ℕ) (m : Message) (cut : bytes ≡ piece ++
   pub message-early : early bytes ≡ None
   message-early =
       let opcode : little_number 4 (drop 12 bytes) ≡ 2013 = ap (λ b. little_number 4 (drop 12 b)) cut
-          ∙ opcode-append piece behind is.in_range.0 ∙ (placed piece m is).opcode in
+      ∙ opcode-append piece behind is.in_range.0 ∙ (placed piece m is).opcode in
       none-early bytes (omega (arith, within, is.in_range.0))
-          (record { in_range = (omega (arith, states, is.in_range.0), omega (arith, states, is.in_range.1)); opcode = opcode })
+      (record { in_range = (omega (arith, states, is.in_range.0), omega (arith, states, is.in_range.1)); opcode = opcode })
 
   pub message-not-short : short bytes → ⊥
   message-not-short low =
@@ -144,9 +146,9 @@ pub short-no-fault : (bytes : List ℕ) → short bytes → fault bytes ≡ None
 unfolding fault
 short-no-fault bytes low =
     let test : (ltb (length bytes) 16 ≡ true) ⊎ (ltb (length bytes) (stated bytes) ≡ true) =
-        elim low.1 [ inl few ↦ inl (lt-ltb _ _ few) | inr less ↦ inr (lt-ltb _ _ less) ] in
+    elim low.1 [ inl few ↦ inl (lt-ltb _ _ few) | inr less ↦ inr (lt-ltb _ _ less) ] in
     rw low.0 (either-less (ltb (length bytes) 16) (ltb (length bytes) (stated bytes))
-        (fault_of (message_at (take (stated bytes) bytes))) test)
+    (fault_of (message_at (take (stated bytes) bytes))) test)
 
 -- ---- a fault at the front
 
@@ -164,7 +166,7 @@ unfolding fault
 fault-later bytes more (Some g) f is bad = rw (early-more bytes more g is) bad
 fault-later bytes more None f is bad =
     let tests = late (ltb (length bytes) 16) (ltb (length bytes) (stated bytes))
-        (fault_of (message_at (take (stated bytes) bytes))) f bad in
+    (fault_of (message_at (take (stated bytes) bytes))) f bad in
     let long : 16 ≤ length bytes = ltb-false _ _ tests.0 in
     let all : stated bytes ≤ length bytes = ltb-false _ _ tests.1 in
     let longer = length-append bytes more in
@@ -172,8 +174,10 @@ fault-later bytes more None f is bad =
     let header = early-none bytes long is in
     let none : early (bytes ++ more) ≡ None =
     none-early (bytes ++ more) (omega (arith, long, longer))
-    (record { in_range = (omega (arith, same, header.in_range.0), omega (arith, same, header.in_range.1));
-        opcode = opcode-append bytes more long ∙ header.opcode }) in
+    (record {
+      in_range = (omega (arith, same, header.in_range.0), omega (arith, same, header.in_range.1));
+      opcode = opcode-append bytes more long ∙ header.opcode;
+    }) in
     let few : ltb (length (bytes ++ more)) 16 ≡ false = le-ltb _ _ (omega (arith, long, longer)) in
     let less : ltb (length (bytes ++ more)) (stated bytes) ≡ false = le-ltb _ _ (omega (arith, all, longer)) in
     rw (none, same, few, less, take-append-le (stated bytes) bytes more all) tests.2
@@ -205,9 +209,9 @@ module _ (bytes : List ℕ) (fits : IsBytes bytes) (long : 16 ≤ length bytes) 
   unfolding front
   front-begins =
       let same : stated front ≡ stated bytes =
-          sym (ap stated whole ∙ stated-append front (drop (stated bytes) bytes) (omega (arith, least))) in
+      sym (ap stated whole ∙ stated-append front (drop (stated bytes) bytes) (omega (arith, least))) in
       let opcode : little_number 4 (drop 12 front) ≡ 2013 =
-          sym (ap (λ b. little_number 4 (drop 12 b)) whole ∙ opcode-append front (drop (stated bytes) bytes) least) ∙ header.opcode in
+      sym (ap (λ b. little_number 4 (drop 12 b)) whole ∙ opcode-append front (drop (stated bytes) bytes) least) ∙ header.opcode in
       record {
         within = all;
         some = header.in_range.0;
@@ -221,13 +225,17 @@ pub taken-whole : (bytes behind front : List ℕ) (used : ℕ) (m : Message) →
     → front ≡ take used bytes → message_at front ≡ Ok m
     → Begins bytes m used
 taken-whole bytes behind front used m fits used_is low high long opcode behind_is all front_is is =
-    let header : Header bytes = record { in_range = (omega (arith, used_is), omega (arith, used_is));
-        opcode = ap (little_number 4) (sym behind_is) ∙ opcode } in
+    let header : Header bytes = record {
+      in_range = (omega (arith, used_is), omega (arith, used_is));
+      opcode = ap (little_number 4) (sym behind_is) ∙ opcode;
+    } in
     let whole : message_at (take (stated bytes) bytes) ≡ Ok m = ap message_at (ap (λ n. take n bytes) (sym used_is) ∙ sym front_is) ∙ is in
     subst (Begins bytes m) (sym used_is) (front-begins bytes fits long header (omega (arith, used_is, all)) m whole)
 
 pub begins-alone : (bytes : List ℕ) (m : Message) (used : ℕ) → Begins bytes m used → (fault bytes ≡ None) × (short bytes → ⊥)
 begins-alone bytes m used begins =
-    let cut : bytes ≡ take used bytes ++ drop used bytes = sym (take-append-drop used bytes) in
-    (message-no-fault bytes (take used bytes) (drop used bytes) m cut begins.alone, message-not-short bytes (take used bytes)
-        (drop used bytes) m cut begins.alone)
+    let cut : bytes ≡ take used bytes ++ drop used bytes = sym (take-append-drop used bytes) in (
+      message-no-fault bytes (take used bytes) (drop used bytes) m cut begins.alone,
+      message-not-short bytes (take used bytes)
+          (drop used bytes) m cut begins.alone,
+    )

@@ -54,10 +54,10 @@ module _ {A : Type 0} (goes_on : List ℕ → Bool) (one : List ℕ → Result (
         → Ends bytes found
     ends-more bytes piece first others found near cut is rest made =
         let place : end - length first.2 ≡ end - length bytes + length piece =
-            omega (arith, near, ap length cut, length-append piece first.2) in
+        omega (arith, near, ap length cut, length-append piece first.2) in
         let behind = subst (λ (n : ℕ). AreInOrder Is n rest.0 others.0 others.1) place rest.2 in
         let whole : bytes ≡ (piece ++ rest.0) ++ others.2 = cut ∙ ap (λ (b : List ℕ). piece ++ b) rest.1
-            ∙ sym (append_assoc piece rest.0 others.2) in
+        ∙ sym (append_assoc piece rest.0 others.2) in
         at_found (Ends bytes) (first.0 ∷ others.0, option_or first.1 others.1, others.2) found made
         (piece ++ rest.0, whole, (piece, rest.0, first.1, others.1, refl, is, behind, refl), rest.3)
 
@@ -69,16 +69,16 @@ module _ {A : Type 0} (goes_on : List ℕ → Bool) (one : List ℕ → Result (
         at_found (Ends bytes) ([], None, bytes) found is ([], refl, (refl, refl), stops bytes (omega arith))
     many-takes taken stops (suc most) bytes found fits near few is =
         elim (branch_ok (goes_on bytes) (one bytes >>= λ it. many_at goes_on one most it.2
-            >>= λ others. Ok (it.0 ∷ others.0, option_or it.1 others.1, others.2)) (Ok ([], None, bytes)) found is) [
+        >>= λ others. Ok (it.0 ∷ others.0, option_or it.1 others.1, others.2)) (Ok ([], None, bytes)) found is) [
           | inl goes ↦
               let first = bind_ok (one bytes) (λ it. many_at goes_on one most it.2
-                  >>= λ others. Ok (it.0 ∷ others.0, option_or it.1 others.1, others.2)) found goes.1 in
+              >>= λ others. Ok (it.0 ∷ others.0, option_or it.1 others.1, others.2)) found goes.1 in
               let others = bind_ok (many_at goes_on one most first.0.2)
-                  (λ others. Ok (first.0.0 ∷ others.0, option_or first.0.1 others.1, others.2)) found first.2 in
+              (λ others. Ok (first.0.0 ∷ others.0, option_or first.0.1 others.1, others.2)) found first.2 in
               let it = taken bytes first.0 fits near goes.0 first.1 in
               let lengths : length bytes ≡ length it.0 + length first.0.2 = ap length it.1 ∙ length-append it.0 first.0.2 in
               let rest = many-takes taken stops most first.0.2 others.0 (IsBytes-rest it.0 first.0.2 bytes it.1 fits)
-                  (omega (arith, lengths, near)) (omega (arith, lengths, few, it.3)) others.1 in
+              (omega (arith, lengths, near)) (omega (arith, lengths, few, it.3)) others.1 in
               ends-more bytes it.0 first.0 others.0 found near it.1 it.2 rest others.2
           | inr none ↦ at_found (Ends bytes) ([], None, bytes) found none.1 ([], refl, (refl, refl), none.0)
         ]
@@ -89,7 +89,7 @@ module _ {A : Type 0} (goes_on : List ℕ → Bool) (one : List ℕ → Result (
     unfolding many_at
     many-again again [] most place piece rest foreign is at none few =
         ap (λ (b : List ℕ). many_at goes_on one most (b ++ rest)) is.0 ∙ many-none most rest none
-            ∙ ap (λ (f : Option Foreign). Ok ([], f, rest)) (sym is.1)
+        ∙ ap (λ (f : Option Foreign). Ok ([], f, rest)) (sym is.1)
     many-again again (it ∷ more) zero place piece rest foreign is at none few =
         let cut : piece ++ rest ≡ is.0 ++ (is.1 ++ rest) = ap (λ (b : List ℕ). b ++ rest) is.4 ∙ append_assoc is.0 is.1 rest in
         let read = again place is.0 (is.1 ++ rest) it is.2 is.5 (sym (ap (λ (b : List ℕ). place + length b) cut) ∙ at) in
@@ -99,11 +99,11 @@ module _ {A : Type 0} (goes_on : List ℕ → Bool) (one : List ℕ → Result (
         let read = again place is.0 (is.1 ++ rest) it is.2 is.5 (sym (ap (λ (b : List ℕ). place + length b) cut) ∙ at) in
         let lengths : length piece ≡ length is.0 + length is.1 = ap length is.4 ∙ length-append is.0 is.1 in
         let behind : (place + length is.0) + length (is.1 ++ rest) ≡ end =
-            omega (arith, at, ap length cut, length-append is.0 (is.1 ++ rest)) in
+        omega (arith, at, ap length cut, length-append is.0 (is.1 ++ rest)) in
         let later = many-again again more most (place + length is.0) is.1 rest is.3 is.6 behind none
-            (omega (arith, few, lengths, read.2)) in
+        (omega (arith, few, lengths, read.2)) in
         ap (many_at goes_on one (suc most)) cut
-            ∙ rw (read.0, read.1, later) (ap (λ (f : Option Foreign). Ok (it ∷ more, f, rest)) (sym is.7))
+        ∙ rw (read.0, read.1, later) (ap (λ (f : Option Foreign). Ok (it ∷ more, f, rest)) (sym is.7))
 
   -- ---- a loop
 
@@ -117,7 +117,7 @@ module _ {A : Type 0} (goes_on : List ℕ → Bool) (one : List ℕ → Result (
 
   behind-one : (before : List A) (foreign own : Option Foreign) (it : A) (found : Result (Found (List A)) Fault)
       → behind before foreign (found >>= λ others. Ok (it ∷ others.0, option_or own others.1, others.2)) ≡ behind (before ++ it ∷ [])
-          (option_or foreign own) found
+      (option_or foreign own) found
   behind-one before foreign own it (Err fault) = refl
   behind-one before foreign own it (Ok others) =
       ap (λ (all : List A). Ok (all, option_or foreign (option_or own others.1), others.2)) (sym (append_assoc before (it ∷ []) others.0))
@@ -131,8 +131,12 @@ module _ {A : Type 0} (goes_on : List ℕ → Bool) (one : List ℕ → Result (
     pub all : behind before foreign (many_at goes_on one most rest) ≡ many_at goes_on one (length bytes) bytes
 
   pub goes-start : (bytes : List ℕ) → Goes bytes bytes [] None
-  goes-start bytes = record { most = length bytes; fuel = omega arith; within = omega arith;
-      all = behind-none (many_at goes_on one (length bytes) bytes) }
+  goes-start bytes = record {
+    most = length bytes;
+    fuel = omega arith;
+    within = omega arith;
+    all = behind-none (many_at goes_on one (length bytes) bytes);
+  }
 
   pub goes-end : (bytes rest : List ℕ) (before : List A) (foreign : Option Foreign) → Goes bytes rest before foreign → goes_on rest ≡ false
       → many_at goes_on one (length bytes) bytes ≡ Ok (before, foreign, rest)
@@ -143,8 +147,8 @@ module _ {A : Type 0} (goes_on : List ℕ → Bool) (one : List ℕ → Result (
 
   many-more : (most : ℕ) (rest : List ℕ) → 0 < length rest → length rest ≤ most → goes_on rest ≡ true
       → (less : ℕ) × (length rest ≤ suc less)
-          × (many_at goes_on one most rest ≡ (one rest >>= λ it. many_at goes_on one less it.2
-          >>= λ others. Ok (it.0 ∷ others.0, option_or it.1 others.1, others.2)))
+      × (many_at goes_on one most rest ≡ (one rest >>= λ it. many_at goes_on one less it.2
+      >>= λ others. Ok (it.0 ∷ others.0, option_or it.1 others.1, others.2)))
   unfolding many_at
   many-more zero rest some few goes = absurd (omega (arith, some, few))
   many-more (suc most) rest some few goes = (most, few, rw goes refl)
@@ -154,8 +158,8 @@ module _ {A : Type 0} (goes_on : List ℕ → Bool) (one : List ℕ → Result (
   goes-bad bytes rest before foreign goes some on fault bad =
       let more = many-more goes.most rest some goes.fuel on in
       sym goes.all ∙ ap (behind before foreign) (more.2
-          ∙ ap (λ (r : Result (Found A) Fault). r >>= λ it. many_at goes_on one more.0 it.2
-          >>= λ others. Ok (it.0 ∷ others.0, option_or it.1 others.1, others.2)) bad)
+      ∙ ap (λ (r : Result (Found A) Fault). r >>= λ it. many_at goes_on one more.0 it.2
+      >>= λ others. Ok (it.0 ∷ others.0, option_or it.1 others.1, others.2)) bad)
 
   pub goes-fails : (bytes rest : List ℕ) (before : List A) (foreign : Option Foreign) → Goes bytes rest before foreign → 0 < length rest
       → goes_on rest ≡ true → (why : Refused) → Fails why (one rest) → Fails why (many_at goes_on one (length bytes) bytes)
@@ -169,7 +173,7 @@ module _ {A : Type 0} (goes_on : List ℕ → Bool) (one : List ℕ → Result (
   goes-more bytes rest after before foreign own it goes some on is shorter =
       let more = many-more goes.most rest some goes.fuel on in
       let read = more.2 ∙ ap (λ (r : Result (Found A) Fault). r >>= λ it. many_at goes_on one more.0 it.2
-          >>= λ others. Ok (it.0 ∷ others.0, option_or it.1 others.1, others.2)) is in
+      >>= λ others. Ok (it.0 ∷ others.0, option_or it.1 others.1, others.2)) is in
       record {
         most = more.0;
         fuel = omega (arith, more.1, shorter);

@@ -32,7 +32,7 @@ module _ (end section : ℕ) (bytes rest : List ℕ) (docs : List Doc) (foreign 
   pub documents-end : length rest ≤ 0 → documents_at end section bytes ≡ Ok (docs, foreign, [])
   documents-end none =
       goes-end some (document end section) bytes rest docs foreign goes (le-ltb _ _ none)
-          ∙ ap (λ (r : List ℕ). Ok (docs, foreign, r)) (empty rest (omega (arith, none)))
+      ∙ ap (λ (r : List ℕ). Ok (docs, foreign, r)) (empty rest (omega (arith, none)))
 
   pub documents-fail : 0 < length rest → (why : Refused) → Fails why (document_in section (end - length rest) rest)
       → Fails why (documents_at end section bytes)
@@ -43,7 +43,7 @@ module _ (end section : ℕ) (bytes rest : List ℕ) (docs : List Doc) (foreign 
       → all ≡ docs ++ doc ∷ [] → foreign' ≡ option_or foreign own → DocumentsGo end section bytes after all foreign'
   documents-more after all doc own foreign' more is shorter all_is foreign_is =
       subst (λ (d : List Doc). DocumentsGo end section bytes after d foreign') (sym all_is)
-          (subst (DocumentsGo end section bytes after (docs ++ doc ∷ [])) (sym foreign_is)
+      (subst (DocumentsGo end section bytes after (docs ++ doc ∷ [])) (sym foreign_is)
       (goes-more some (document end section) bytes rest after docs foreign own doc goes more (lt-ltb _ _ more) is shorter))
 
 -- ---- sequences
@@ -72,7 +72,7 @@ module _ (end : ℕ) (before : List Sequence) (bytes rest : List ℕ) (all : Lis
   sequences-end : begins rest ≡ false → behind_those before (sequences_at end bytes) ≡ Ok (all, foreign, rest)
   sequences-end none =
       ap (behind_those before) (goes-end begins (sequence end) bytes rest goes.0 foreign goes.2 none)
-          ∙ ap (λ (s : List Sequence). Ok (s, foreign, rest)) (sym goes.1)
+      ∙ ap (λ (s : List Sequence). Ok (s, foreign, rest)) (sym goes.1)
 
   pub sequences-end-none : length rest ≤ 0 → behind_those before (sequences_at end bytes) ≡ Ok (all, foreign, rest)
   sequences-end-none none = sequences-end (ap (λ (r : List ℕ). begins r) (empty rest (omega (arith, none))))
@@ -85,7 +85,7 @@ module _ (end : ℕ) (before : List Sequence) (bytes rest : List ℕ) (all : Lis
   sequences-fail inside more one inside_is why fails =
       fails-behind before (sequences_at end bytes) why
       (goes-fails begins (sequence end) bytes rest goes.0 foreign goes.2 more (ap (λ (n : ℕ). eqb n 1) one) why
-          (subst (λ (b : List ℕ). Fails why (sequence_at end (end - length rest) b)) inside_is fails))
+      (subst (λ (b : List ℕ). Fails why (sequence_at end (end - length rest) b)) inside_is fails))
 
   pub sequences-more : (inside after : List ℕ) (all' : List Sequence) (it : Sequence) (own foreign' : Option Foreign) → 0 < length rest
       → get_or rest 0 0 ≡ 1 → inside ≡ drop 1 rest
@@ -95,7 +95,7 @@ module _ (end : ℕ) (before : List Sequence) (bytes rest : List ℕ) (all : Lis
       let less : length after < length rest = omega (arith, more, shorter, ap length inside_is, length-drop 1 rest) in
       let read = subst (λ (b : List ℕ). sequence_at end (end - length rest) b ≡ Ok (it, own, after)) inside_is is in
       let next = goes-more begins (sequence end) bytes rest after goes.0 foreign own it goes.2 more
-          (ap (λ (n : ℕ). eqb n 1) one) read less in (
+      (ap (λ (n : ℕ). eqb n 1) one) read less in (
         goes.0 ++ it ∷ [],
         all_is ∙ ap (λ (s : List Sequence). s ++ it ∷ []) goes.1 ∙ append_assoc before goes.0 (it ∷ []),
         subst (λ (f : Option Foreign). Goes begins (sequence end) bytes after (goes.0 ++ it ∷ []) f) (sym foreign_is) next,

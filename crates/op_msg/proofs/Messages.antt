@@ -31,7 +31,7 @@ pub record Placed (bytes : List ℕ) (size : ℕ) (request : ℤ) (sections : Li
 
 placed-cells : (size bits a b c d h k : ℕ) (sections : List ℕ) → size < 2 ^ 32 → bits < 2 ^ 32
     → Placed (int32 size ++ int32 bits ++ (a ∷ b ∷ c ∷ d ∷ []) ++ int32 2013 ++ (0 ∷ 0 ∷ []) ++ (h ∷ k ∷ []) ++ sections) size
-        (cast_signed w32 bits) sections
+    (cast_signed w32 bits) sections
 unfolding stated
 placed-cells size bits a b c d h k sections small below =
     let rest = (a ∷ b ∷ c ∷ d ∷ []) ++ int32 2013 ++ (0 ∷ 0 ∷ []) ++ (h ∷ k ∷ []) ++ sections in
@@ -46,7 +46,7 @@ placed-cells size bits a b c d h k sections small below =
 
 placed-two : (size bits a b c d : ℕ) (high sections : List ℕ) → length high ≡ 2 → size < 2 ^ 32 → bits < 2 ^ 32
     → Placed (int32 size ++ int32 bits ++ (a ∷ b ∷ c ∷ d ∷ []) ++ int32 2013 ++ (0 ∷ 0 ∷ []) ++ high ++ sections) size
-        (cast_signed w32 bits) sections
+    (cast_signed w32 bits) sections
 placed-two size bits a b c d [] sections two small below = absurd (omega (arith, two))
 placed-two size bits a b c d (h ∷ []) sections two small below = absurd (omega (arith, two))
 placed-two size bits a b c d (h ∷ k ∷ []) sections two small below = placed-cells size bits a b c d h k sections small below
@@ -55,7 +55,7 @@ placed-two size bits a b c d (h ∷ k ∷ e ∷ more) sections two small below =
 placed-four : (size bits : ℕ) (response_to high sections : List ℕ) → length response_to ≡ 4 → length high ≡ 2 → size < 2 ^ 32
     → bits < 2 ^ 32
     → Placed (int32 size ++ int32 bits ++ response_to ++ int32 2013 ++ (0 ∷ 0 ∷ []) ++ high ++ sections) size
-        (cast_signed w32 bits) sections
+    (cast_signed w32 bits) sections
 placed-four size bits [] high sections four two small below = absurd (omega (arith, four))
 placed-four size bits (a ∷ []) high sections four two small below = absurd (omega (arith, four))
 placed-four size bits (a ∷ b ∷ []) high sections four two small below = absurd (omega (arith, four))
@@ -68,9 +68,9 @@ placed bytes m is =
     let bits = cast_unsigned w32 m.request in
     let back : cast_signed w32 bits ≡ m.request = to_z-of_z w32 m.request is.request in
     let there = placed-four (length bytes) bits is.response_to is.high_flags is.sections is.four is.two (omega (arith, is.in_range.1))
-        (omega (arith, ints)) in
+    (omega (arith, ints)) in
     subst (λ r. Placed bytes (length bytes) r is.sections) back
-        (subst (λ b. Placed b (length bytes) (cast_signed w32 bits) is.sections) (sym is.whole) there)
+    (subst (λ b. Placed b (length bytes) (cast_signed w32 bits) is.sections) (sym is.whole) there)
 
 pub message-again : (bytes : List ℕ) (m : Message) → message bytes m → message_at bytes ≡ Ok m
 unfolding message_at sections_at
@@ -102,7 +102,7 @@ cut-two bytes long is =
     let one : get_or bytes 0 0 ≡ 0 = omega (arith, is) in
     let other : get_or bytes 1 0 ≡ 0 = omega (arith, is) in
     drop_more bytes 0 0 (omega arith) ∙ ap (λ byte. byte ∷ drop 1 bytes) one
-        ∙ ap (λ rest. 0 ∷ rest) (drop_more bytes 1 0 (omega arith) ∙ ap (λ byte. byte ∷ drop 2 bytes) other)
+    ∙ ap (λ rest. 0 ∷ rest) (drop_more bytes 1 0 (omega arith) ∙ ap (λ byte. byte ∷ drop 2 bytes) other)
 
 sections-are : (bytes sections : List ℕ) → sections_at bytes ≡ Ok sections → (20 ≤ length bytes) × (little_number 2 (drop 16 bytes) ≡ 0)
     × (drop 20 bytes ≡ sections)
@@ -156,23 +156,23 @@ module _ (bytes : List ℕ) (fits : IsBytes bytes) (in_range : InRange (length b
   unfolding stated bits
   whole-cut =
       let size : bytes ≡ int32 (length bytes) ++ drop 4 bytes = cut-four bytes fits (omega (arith, at.long))
-          ∙ ap (λ n. int32 n ++ drop 4 bytes) stated_is in
+      ∙ ap (λ n. int32 n ++ drop 4 bytes) stated_is in
       let asked : drop 4 bytes ≡ int32 bits ++ drop 8 bytes = cut-at 4 bits bytes fits (omega (arith, at.long)) refl in
       let answered : drop 8 bytes ≡ take 4 (drop 8 bytes) ++ drop 12 bytes = sym (take-append-drop 4 (drop 8 bytes))
-          ∙ ap (λ rest. take 4 (drop 8 bytes) ++ rest) (drop-drop 4 8 bytes) in
+      ∙ ap (λ rest. take 4 (drop 8 bytes) ++ rest) (drop-drop 4 8 bytes) in
       let opcode : drop 12 bytes ≡ int32 2013 ++ drop 16 bytes = cut-at 12 2013 bytes fits (omega (arith, at.long)) opcode_is in
       let low : drop 16 bytes ≡ 0 ∷ 0 ∷ drop 18 bytes = cut-two (drop 16 bytes) (omega (arith, at.long, length-drop 16 bytes)) at.flags
-          ∙ ap (λ rest. 0 ∷ 0 ∷ rest) (drop-drop 2 16 bytes) in
+      ∙ ap (λ rest. 0 ∷ 0 ∷ rest) (drop-drop 2 16 bytes) in
       let high : drop 18 bytes ≡ take 2 (drop 18 bytes) ++ drop 20 bytes = sym (take-append-drop 2 (drop 18 bytes))
-          ∙ ap (λ rest. take 2 (drop 18 bytes) ++ rest) (drop-drop 2 18 bytes) in
+      ∙ ap (λ rest. take 2 (drop 18 bytes) ++ rest) (drop-drop 2 18 bytes) in
       let from16 : drop 16 bytes ≡ (0 ∷ 0 ∷ []) ++ take 2 (drop 18 bytes) ++ drop 20 bytes = low ∙ ap (λ rest. 0 ∷ 0 ∷ rest) high in
       let from12 : drop 12 bytes ≡ int32 2013 ++ (0 ∷ 0 ∷ []) ++ take 2 (drop 18 bytes) ++ drop 20 bytes = opcode
-          ∙ ap (λ rest. int32 2013 ++ rest) from16 in
+      ∙ ap (λ rest. int32 2013 ++ rest) from16 in
       let from8 : drop 8 bytes ≡ take 4 (drop 8 bytes) ++ int32 2013 ++ (0 ∷ 0 ∷ []) ++ take 2 (drop 18 bytes) ++ drop 20 bytes = answered
-          ∙ ap (λ rest. take 4 (drop 8 bytes) ++ rest) from12
-          ∙ five-parts (take 4 (drop 8 bytes)) (int32 2013) (0 ∷ 0 ∷ []) (take 2 (drop 18 bytes)) (drop 20 bytes) in
+      ∙ ap (λ rest. take 4 (drop 8 bytes) ++ rest) from12
+      ∙ five-parts (take 4 (drop 8 bytes)) (int32 2013) (0 ∷ 0 ∷ []) (take 2 (drop 18 bytes)) (drop 20 bytes) in
       let from4 : drop 4 bytes ≡ int32 bits ++ take 4 (drop 8 bytes) ++ int32 2013 ++ (0 ∷ 0 ∷ []) ++ take 2 (drop 18 bytes)
-          ++ drop 20 bytes = asked ∙ ap (λ rest. int32 bits ++ rest) from8 in
+      ++ drop 20 bytes = asked ∙ ap (λ rest. int32 bits ++ rest) from8 in
       size ∙ ap (λ rest. int32 (length bytes) ++ rest) from4
 
   pub message-takes : message bytes m

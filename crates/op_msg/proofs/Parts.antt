@@ -55,7 +55,7 @@ read-takes : (place : ℕ) (bytes : List ℕ) (found : Found Doc) (read : Result
 read-takes place bytes found (Ok it) fits is made =
     let taken = document_takes bytes it fits is in
     at_found (λ (found : Found Doc). (piece : List ℕ) × (bytes ≡ piece ++ found.2) × IsDocument place piece found.0 found.1)
-        (it.0, moved place (first it.1), it.2) found made
+    (it.0, moved place (first it.1), it.2) found made
     (taken.0, taken.1, (it.1, taken.2, refl))
 read-takes place bytes found (Err at) fits is made = absurd cc
 
@@ -71,7 +71,7 @@ pub document-again : (section place : ℕ) (piece rest : List ℕ) (doc : Doc) (
 unfolding document_in
 document-again section place piece rest doc own is =
     let long : ltb (length (piece ++ rest)) 4 ≡ false =
-        le-ltb _ _ (omega (arith, spelled-long piece doc is.0 is.1, length-append piece rest)) in
+    le-ltb _ _ (omega (arith, spelled-long piece doc is.0 is.1, length-append piece rest)) in
     rw (long, document_again piece rest doc is.0 is.1) (ap (λ (f : Option Foreign). Ok (doc, f, rest)) (sym is.2))
 
 none-left : (bytes : List ℕ) → length bytes ≡ 0 → ltb 0 (length bytes) ≡ false
@@ -95,9 +95,11 @@ module _ (end section : ℕ) where
       → (some (piece ++ rest) ≡ true) × (one (piece ++ rest) ≡ Ok (doc, own, rest)) × (0 < length piece)
   one-again place piece rest doc own is at =
       let long = spelled-long piece doc is.0 is.1 in
-      let here : end - length (piece ++ rest) ≡ place = omega (arith, at) in
-      (lt-ltb _ _ (omega (arith, long, length-append piece rest)), rw here (document-again section place piece rest doc own is),
-          omega (arith, long))
+      let here : end - length (piece ++ rest) ≡ place = omega (arith, at) in (
+        lt-ltb _ _ (omega (arith, long, length-append piece rest)),
+        rw here (document-again section place piece rest doc own is),
+        omega (arith, long),
+      )
 
   pub documents-take : (bytes : List ℕ) (found : Found (List Doc)) → IsBytes bytes → length bytes ≤ end
       → documents_at end section bytes ≡ Ok found → AreInOrder IsDocument (end - length bytes) bytes found.0 found.1
@@ -114,7 +116,7 @@ module _ (end section : ℕ) where
       let whole = append-nil bytes in
       ap (many_at some one (length bytes)) (sym whole)
       ∙ many-again some one IsDocument end one-again docs (length bytes) place bytes [] foreign is
-          (ap (λ (b : List ℕ). place + length b) whole ∙ at) refl (omega arith)
+      (ap (λ (b : List ℕ). place + length b) whole ∙ at) refl (omega arith)
 
 -- ---- what a size holds
 
@@ -131,22 +133,25 @@ sized-takes section bytes found fits is =
     let size = little_number 4 bytes in
     let value : List ℕ × List ℕ = (drop 4 (take size bytes), drop size bytes) in
     let four = unless_ok (ltb (length bytes) 4) (Section, section)
-        (cond (ltb size 5) (Err (Section, section)) (cond (ltb (length bytes) size) (Err (Section, section)) (Ok value))) found is in
+    (cond (ltb size 5) (Err (Section, section)) (cond (ltb (length bytes) size) (Err (Section, section)) (Ok value))) found is in
     let least = unless_ok (ltb size 5) (Section, section)
-        (cond (ltb (length bytes) size) (Err (Section, section)) (Ok value)) found four.1 in
+    (cond (ltb (length bytes) size) (Err (Section, section)) (Ok value)) found four.1 in
     let most = unless_ok (ltb (length bytes) size) (Section, section) (Ok value) found least.1 in
     let front = take size bytes in
     let whole : bytes ≡ front ++ drop size bytes = sym (take-append-drop size bytes) in
     let long : length front ≡ size = length-take-le size bytes (ltb-false _ _ most.0) in
     let five : 5 ≤ size = ltb-false _ _ least.0 in
     let same : little_number 4 front ≡ size =
-        sym (ap (little_number 4) whole ∙ little_from-append 4 front (drop size bytes) (omega (arith, long, five))) in
+    sym (ap (little_number 4) whole ∙ little_from-append 4 front (drop size bytes) (omega (arith, long, five))) in
     let cut : front ≡ int32 size ++ drop 4 front =
-        cut-four front (IsBytes-front front (drop size bytes) bytes whole fits) (omega (arith, long, five))
-        ∙ ap (λ (n : ℕ). int32 n ++ drop 4 front) same in
+    cut-four front (IsBytes-front front (drop size bytes) bytes whole fits) (omega (arith, long, five))
+    ∙ ap (λ (n : ℕ). int32 n ++ drop 4 front) same in
     at_found (Sized bytes) value found most.1
-    (record { size = size; whole = whole ∙ ap (λ (b : List ℕ). b ++ drop size bytes) cut;
-        counted = omega (arith, length-drop 4 front, long, five) })
+    (record {
+      size = size;
+      whole = whole ∙ ap (λ (b : List ℕ). b ++ drop size bytes) cut;
+      counted = omega (arith, length-drop 4 front, long, five);
+    })
 
 sized-again : (section size : ℕ) (inside rest : List ℕ) → length inside + 4 ≡ size → 5 ≤ size → size < 2 ^ 32
     → sized_at section (int32 size ++ inside ++ rest) ≡ Ok (inside, rest)
@@ -156,12 +161,12 @@ sized-again section size inside rest counted five below =
     let four = length-bytes_low_first 0 4 size in
     let long : length front ≡ size = omega (arith, counted, length-append (int32 size) inside, four) in
     let number : little_number 4 (front ++ rest) ≡ size = ap (little_number 4) (append_assoc (int32 size) inside rest)
-        ∙ little_number-reads_back 4 size (inside ++ rest) below in
+    ∙ little_number-reads_back 4 size (inside ++ rest) below in
     let enough : ltb (length (front ++ rest)) 4 ≡ false = le-ltb _ _ (omega (arith, length-append front rest, long, five)) in
     let least : ltb size 5 ≡ false = le-ltb _ _ five in
     let most : ltb (length (front ++ rest)) size ≡ false = le-ltb _ _ (omega (arith, length-append front rest, long)) in
     let held : drop 4 (take size (front ++ rest)) ≡ inside = ap (drop 4) (take_at front rest size long)
-        ∙ drop_at (int32 size) inside 4 four in
+    ∙ drop_at (int32 size) inside 4 four in
     let behind : drop size (front ++ rest) ≡ rest = drop_at front rest size long in
     rw (enough, number, least, most, held, behind) refl
 
@@ -184,17 +189,25 @@ sequence-is end section bytes name documents found part docs near here sized cut
     let long : length inside ≡ sized.size = omega (arith, sized.counted, length-append (int32 sized.size) part.0, four) in
     let lengths : length bytes ≡ length inside + length part.1 = ap length sized.whole ∙ length-append inside part.1 in
     let parts : length part.0 ≡ length name + 1 + length documents =
-        omega (arith, ap length cut, length-append (cstring name) documents, length-append name (0 ∷ [])) in
+    omega (arith, ap length cut, length-append (cstring name) documents, length-append name (0 ∷ [])) in
     let place : end - length part.1 - length documents ≡ section + (6 + length name) =
-        omega (arith, near, here, lengths, long, parts, sized.counted) in
+    omega (arith, near, here, lengths, long, parts, sized.counted) in
     let counted : length (1 ∷ inside) - 1 ≡ sized.size = omega (arith, long) in
     let whole : 1 ∷ inside ≡ 1 ∷ int32 (length (1 ∷ inside) - 1) ++ cstring name ++ documents =
     ap (λ (b : List ℕ). 1 ∷ int32 sized.size ++ b) cut ∙ sym (append_assoc (1 ∷ int32 sized.size) (cstring name) documents)
-        ∙ ap (λ (n : ℕ). 1 ∷ int32 n ++ cstring name ++ documents) (sym counted) in
+    ∙ ap (λ (n : ℕ). 1 ∷ int32 n ++ cstring name ++ documents) (sym counted) in
     at_found (λ (found : Found Sequence). (piece : List ℕ) × (1 ∷ bytes ≡ piece ++ found.2) × IsSequence section piece found.0 found.1
-        × (0 < length piece)) (record { name = name; docs = docs.0 }, docs.1, part.1) found made
-    (1 ∷ inside, ap (λ (b : List ℕ). 1 ∷ b) sized.whole, record { documents = documents; whole = whole; name = named;
-        docs = subst (λ (n : ℕ). AreInOrder IsDocument n documents docs.0 docs.1) place are }, omega arith)
+    × (0 < length piece)) (record { name = name; docs = docs.0 }, docs.1, part.1) found made (
+      1 ∷ inside,
+      ap (λ (b : List ℕ). 1 ∷ b) sized.whole,
+      record {
+        documents = documents;
+        whole = whole;
+        name = named;
+        docs = subst (λ (n : ℕ). AreInOrder IsDocument n documents docs.0 docs.1) place are;
+      },
+      omega arith,
+    )
 
 sequence-takes : (end section : ℕ) (bytes : List ℕ) (found : Found Sequence) → IsBytes bytes → length bytes + 1 ≤ end
     → section ≡ end - (length bytes + 1) → sequence_at end section bytes ≡ Ok found
@@ -202,21 +215,28 @@ sequence-takes : (end section : ℕ) (bytes : List ℕ) (found : Found Sequence)
 unfolding sequence_at
 sequence-takes end section bytes found fits near here is =
     let part = bind_ok (sized_at section bytes) (λ part. identifier_at section (name_at section part.0)
-        >>= λ name. documents_at (end - length part.1) section name.1
-        >>= λ docs. Ok (record { name = name.0; docs = docs.0 }, docs.1, part.1)) found is in
+    >>= λ name. documents_at (end - length part.1) section name.1
+    >>= λ docs. Ok (record { name = name.0; docs = docs.0 }, docs.1, part.1)) found is in
     let name = bind_ok (identifier_at section (name_at section part.0.0)) (λ name. documents_at (end - length part.0.1) section name.1
-        >>= λ docs. Ok (record { name = name.0; docs = docs.0 }, docs.1, part.0.1)) found part.2 in
+    >>= λ docs. Ok (record { name = name.0; docs = docs.0 }, docs.1, part.0.1)) found part.2 in
     let docs = bind_ok (documents_at (end - length part.0.1) section name.0.1)
-        (λ docs. Ok (record { name = name.0.0; docs = docs.0 }, docs.1, part.0.1)) found name.2 in
+    (λ docs. Ok (record { name = name.0.0; docs = docs.0 }, docs.1, part.0.1)) found name.2 in
     let sized = sized-takes section bytes part.0 fits part.1 in
     let cut = name_takes section part.0.0 name.0 (identifier-takes section (name_at section part.0.0) name.0 name.1) in
     let inside : List ℕ = int32 sized.size ++ part.0.0 in
     let fits-part : IsBytes part.0.0 =
-        IsBytes-rest (int32 sized.size) part.0.0 inside refl (IsBytes-front inside part.0.1 bytes sized.whole fits) in
+    IsBytes-rest (int32 sized.size) part.0.0 inside refl (IsBytes-front inside part.0.1 bytes sized.whole fits) in
     let fits-documents : IsBytes name.0.1 = IsBytes-rest (cstring name.0.0) name.0.1 part.0.0 cut.0 fits-part in
     let within : length name.0.1 ≤ end - length part.0.1 =
-    omega (arith, near, ap length sized.whole, length-append inside part.0.1, length-append (int32 sized.size) part.0.0, ap length cut.0,
-        length-append (cstring name.0.0) name.0.1) in
+    omega (
+      arith,
+      near,
+      ap length sized.whole,
+      length-append inside part.0.1,
+      length-append (int32 sized.size) part.0.0,
+      ap length cut.0,
+      length-append (cstring name.0.0) name.0.1,
+    ) in
     let are = documents-take (end - length part.0.1) section name.0.1 docs.0 fits-documents within docs.1 in
     sequence-is end section bytes name.0.0 name.0.1 found part.0 docs.0 near here sized cut.0 cut.1 are docs.2
 
@@ -230,16 +250,19 @@ sequence-again end section piece rest it own few is at =
     let front : piece ≡ 1 ∷ (int32 size ++ inside) = is.whole ∙ append_assoc (1 ∷ int32 size) (cstring it.name) is.documents in
     let four = length-bytes_low_first 0 4 size in
     let parts : length inside ≡ length it.name + 1 + length is.documents =
-        omega (arith, length-append (cstring it.name) is.documents, length-append it.name (0 ∷ [])) in
+    omega (arith, length-append (cstring it.name) is.documents, length-append it.name (0 ∷ [])) in
     let long : length piece ≡ 1 + (4 + length inside) = omega (arith, ap length front, length-append (int32 size) inside, four) in
     let all = length-append piece rest in
     let read = sized-again section size inside rest (omega (arith, long)) (omega (arith, long, parts)) (omega (arith, few, at, all)) in
     let behind : drop 1 (piece ++ rest) ≡ int32 size ++ inside ++ rest = ap (λ (b : List ℕ). drop 1 (b ++ rest)) front in
     let named = name_again section it.name is.documents is.name in
     let docs = documents-again (end - length rest) section it.docs (section + (6 + length it.name)) is.documents own is.docs
-        (omega (arith, at, all, long, parts)) in
-    (ap (λ (b : List ℕ). get_or (b ++ rest) 0 0) front, ap (sequence_at end section) behind
-        ∙ rw (read, named, docs) refl, omega (arith, long))
+    (omega (arith, at, all, long, parts)) in (
+      ap (λ (b : List ℕ). get_or (b ++ rest) 0 0) front,
+      ap (sequence_at end section) behind
+          ∙ rw (read, named, docs) refl,
+      omega (arith, long),
+    )
 
 module _ (end : ℕ) where
   abbrev next : List ℕ → Result (Found Sequence) Fault
@@ -256,7 +279,7 @@ module _ (end : ℕ) where
       let whole : bytes ≡ 1 ∷ drop 1 bytes = first-byte bytes some ∙ ap (λ (byte : ℕ). byte ∷ drop 1 bytes) one in
       let long : length bytes ≡ length (drop 1 bytes) + 1 = omega (arith, some, length-drop 1 bytes) in
       let taken = sequence-takes end (end - length bytes) (drop 1 bytes) found (IsBytes-rest (1 ∷ []) (drop 1 bytes) bytes whole fits)
-          (omega (arith, near, long)) (ap (λ (n : ℕ). end - n) long) is in
+      (omega (arith, near, long)) (ap (λ (n : ℕ). end - n) long) is in
       (taken.0, whole ∙ taken.1, taken.2, taken.3)
 
   none-begins : (bytes : List ℕ) → length bytes ≡ 0 → begins bytes ≡ false
@@ -284,7 +307,7 @@ module _ (end : ℕ) where
         → sequences_at end (piece ++ rest) ≡ Ok (all, foreign, rest)
     sequences-again all place piece rest foreign is at other =
         many-again begins next IsSequence end next-again all (length (piece ++ rest)) place piece rest foreign is at
-            (ap (λ (n : ℕ). eqb n 1) other) (omega (arith, length-append piece rest))
+        (ap (λ (n : ℕ). eqb n 1) other) (omega (arith, length-append piece rest))
 
   -- ---- the body, and what is behind it
 
@@ -294,12 +317,12 @@ module _ (end : ℕ) where
   body-takes bytes found fits near is =
       let read = document_in (end - length bytes) (end - length bytes + 1) (drop 1 bytes) in
       let some = unless_ok (eqb (length bytes) 0) (Body, end)
-          (cond (eqb (get_or bytes 0 0) 0) read (Err (Section, end - length bytes))) found is in
+      (cond (eqb (get_or bytes 0 0) 0) read (Err (Section, end - length bytes))) found is in
       let kind = when_ok (eqb (get_or bytes 0 0) 0) (Section, end - length bytes) read found some.1 in
       let whole : bytes ≡ 0 ∷ drop 1 bytes = first-byte bytes (some-bytes bytes some.0)
-          ∙ ap (λ (byte : ℕ). byte ∷ drop 1 bytes) (eqb-true _ _ kind.0) in
+      ∙ ap (λ (byte : ℕ). byte ∷ drop 1 bytes) (eqb-true _ _ kind.0) in
       let taken = document-takes (end - length bytes) (end - length bytes + 1) (drop 1 bytes) found
-          (IsBytes-rest (0 ∷ []) (drop 1 bytes) bytes whole fits) kind.1 in
+      (IsBytes-rest (0 ∷ []) (drop 1 bytes) bytes whole fits) kind.1 in
       (taken.0, whole ∙ ap (λ (b : List ℕ). 0 ∷ b) taken.1, taken.2)
 
   pub body-again : (place : ℕ) (document rest : List ℕ) (doc : Doc) (own : Option Foreign) → IsDocument (place + 1) document doc own
@@ -308,7 +331,7 @@ module _ (end : ℕ) where
   body-again place document rest doc own is at =
       let here : end - length (0 ∷ document ++ rest) ≡ place = omega (arith, at) in
       rw (ne_eqb (length (0 ∷ document ++ rest)) 0 (λ none. omega (arith, none)), here)
-          (document-again place (place + 1) document rest doc own is)
+      (document-again place (place + 1) document rest doc own is)
 
   second-not : (place : ℕ) (read : Result (Found Doc) Fault) (none : Unit {0}) → (read >>= λ second. Err (Body, place)) ≡ Ok none → ⊥
   second-not place (Ok it) none is = absurd cc

@@ -12,7 +12,7 @@ returns-in-Err-clause-value c =
 pub loop-rest-preserved : goal.loop-rest-preserved
 loop-rest-preserved c =
     sequences-more _ _ _ _ _ _ c.loop-rest.invariant _ _ _ _ _ _ c.loop-rest-test.true c.if-rest-eq1.true c.tail.ensures
-        c.in-Ok.ensures.value c.in-Ok.ensures.shorter c.in_default.ensures.ok c.or-foreign.ensures
+    c.in-Ok.ensures.value c.in-Ok.ensures.shorter c.in_default.ensures.ok c.or-foreign.ensures
 
 pub returns-clause-value : goal.returns-clause-value
 returns-clause-value c =

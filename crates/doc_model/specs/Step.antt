@@ -32,7 +32,8 @@ pub record Meant : Type 0 where
 abbrev pub refused : ℕ → Store → Meant
 refused kind s = record { reply = Refused kind; store = s }
 
--- the document goes last in the collection, by one number, or into one that is created last, by two
+-- The document goes last in the collection, by one number, or into one that is created last, by two. It is refused where
+-- another one has an equal `_id` (31), where no number is left (33), and where there are too many collections (34).
 abbrev pub inserted : Space → List (Pair Value) → Store → Option Collection → Meant
 inserted space doc s (Some c) =
     if has_id doc c.docs then refused 31 s
@@ -41,7 +42,10 @@ inserted space doc s (Some c) =
 inserted space doc s None =
     if nat_le MOST_COLLECTIONS (length s.collections) then refused 34 s
     else if are_spent 2 s then refused 33 s
-    else record { reply = Inserted; store = record { collections = s.collections ++ record { space = space; docs = doc ∷ [] } ∷ []; next = s.next + 2 } }
+    else record {
+      reply = Inserted;
+      store = record { collections = s.collections ++ record { space = space; docs = doc ∷ [] } ∷ []; next = s.next + 2 };
+    }
 
 -- what an operation is replied, and the store after it, where memory lasts
 abbrev pub meant : Who → ℕ → Op → Store → Meant

@@ -1,5 +1,6 @@
 -- Beginnings of one list.
-use Rattle.std.proofs.Common.{◌≡◌, ◌≤◌, ◌<◌, if◌then◌else◌, true, false, List, [], ◌∷◌, ◌++◌, length, refl, ap, sym, ◌∙◌, arith, append_assoc, length-append}
+use Rattle.std.proofs.Common.{◌≡◌, ◌≤◌, ◌<◌, if◌then◌else◌, true, false, List, [], ◌∷◌, ◌++◌, length, refl, ap, sym, ◌∙◌, arith}
+use Rattle.std.proofs.Common.{append_assoc, length-append}
 use Rattle.std.specs.Prelude.{nat_lt}
 use Rattle.std.proofs.lemmas.Bool.Decides.{nat_tests}
 use mathlib.Core.List.{IsPrefix}
@@ -37,5 +38,8 @@ module _ {A : Type 0} where
   prefix-length xs ys p = omega (arith, sym (ap length p.1) ∙ length-append xs p.0)
 
   -- what holds of the longer and the shorter of two lists, in either case
-  pub by-length : (P : List A → List A → Type 0) (xs ys : List A) → (length xs < length ys → P ys xs) → (length ys ≤ length xs → P xs ys) → P (longer xs ys) (shorter xs ys)
-  by-length P xs ys less more = elim (nat_lt (length xs) (length ys)) as (λ b. nat_lt (length xs) (length ys) ≡ b → P (if◌then◌else◌ b ys xs) (if◌then◌else◌ b xs ys)) [ true ↦ λ e. less (grind (arith, nat_tests)) | false ↦ λ e. more (grind (arith, nat_tests)) ] refl
+  pub by-length : (P : List A → List A → Type 0) (xs ys : List A) → (length xs < length ys → P ys xs) → (length ys ≤ length xs → P xs ys)
+      → P (longer xs ys) (shorter xs ys)
+  by-length P xs ys less more = elim (nat_lt (length xs) (length ys)) as (λ b. nat_lt (length xs) (length ys) ≡ b
+      → P (if◌then◌else◌ b ys xs) (if◌then◌else◌ b xs ys)) [ true ↦ λ e. less (grind (arith, nat_tests)) | false ↦ λ e. more
+      (grind (arith, nat_tests)) ] refl

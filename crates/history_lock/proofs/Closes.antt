@@ -27,7 +27,8 @@ module _ {O S C R : Type 0} (m : Meaning O S C R) (key : Origin S) where
   Rule = Kept m key
 
   -- the table as it is made
-  pub opens : (object : O) → key.opening ≡ m.state object → key.first ≡ m.faults object → key.parts < 2 ^ 64 → Rule (opening (0 ∷ 0 ∷ 0 ∷ []) (Here object ∷ []) (newly key))
+  pub opens : (object : O) → key.opening ≡ m.state object → key.first ≡ m.faults object → key.parts < 2 ^ 64
+      → Rule (opening (0 ∷ 0 ∷ 0 ∷ []) (Here object ∷ []) (newly key))
   opens object state faults small =
       let only : (i : ℕ) (u : Known S C R) → get_elem? (newly key ∷ []) i ≡ some u → newly key ≡ u = single (newly key) in record {
         log = [];
@@ -50,7 +51,8 @@ module _ {O S C R : Type 0} (m : Meaning O S C R) (key : Origin S) where
           idle = λ e. refl;
         };
         apart = λ i j t v w p q x y. absurd (subst (λ (z : Known S C R). HasTicket z.stage t) (sym (only i v p)) x);
-        home = inl (object, refl, (sym state, sym faults), (λ i u at t e. let stage : u.stage ≡ Free = ap (λ (z : Known S C R). z.stage) (sym (only i u at)) in cc (e, stage)));
+        home = inl (object, refl, (sym state, sym faults),
+            (λ i u at t e. let stage : u.stage ≡ Free = ap (λ (z : Known S C R). z.stage) (sym (only i u at)) in cc (e, stage)));
       }
     where
       single : (v : Known S C R) (i : ℕ) (u : Known S C R) → get_elem? (v ∷ []) i ≡ some u → v ≡ u
@@ -58,15 +60,20 @@ module _ {O S C R : Type 0} (m : Meaning O S C R) (key : Origin S) where
       single v (suc i) u at = absurd (some-ne-none u (sym at))
 
   -- a seat with all parts, in no turn, has seen all and made all, and the object is at home
-  pub closes : (id : ℕ) (v : Known S C R) (ws : List ℕ) (xs : List (Held O C R)) → v.stage ≡ Free → v.parts ≡ key.parts → Final (Seen Rule id v) ws xs → Closing m key v.at ws xs
+  pub closes : (id : ℕ) (v : Known S C R) (ws : List ℕ) (xs : List (Held O C R)) → v.stage ≡ Free → v.parts ≡ key.parts
+      → Final (Seen Rule id v) ws xs → Closing m key v.at ws xs
   closes id v ws xs free all f =
       let s = f.0 in let r = f.1.0 in let at = f.1.1 in
       let whole : total parts_of s.views ≡ parts_of v = r.parts ∙ sym all in
       let own = owns-all m key s r id v at all in
-      let queue : total queued_of s.views ≡ queued_of v = total-alone parts_of queued_of s.views id v at whole (λ j u there none_left. queued-none u.stage (λ k h. let p = (r.each j u there).sits k h in omega arith)) in
+      let queue : total queued_of s.views ≡ queued_of v =
+          total-alone parts_of queued_of s.views id v at whole
+          (λ j u there none_left. queued-none u.stage (λ k h. let p = (r.each j u there).sits k h in omega arith)) in
       let seen = sees-all m key s r id v at all in
       let home : (object : O) × (s.homes ≡ some (Here object) ∷ []) × StandsAt m key r.log object =
-      ⊎_elim (λ h. (h.0, h.1, h.2)) (λ h. absurd (let t = h.1 in let one : queued_of t.1 ≡ 1 = ap queued t.3 in let none_there : queued_of v ≡ 0 = ap queued free in let most = total-at queued_of s.views t.0 t.1 t.2 in omega arith)) r.home in record {
+      ⊎_elim (λ h. (h.0, h.1, h.2)) (λ h. absurd (let t = h.1 in let one : queued_of t.1 ≡ 1 = ap queued t.3 in
+          let none_there : queued_of v ≡ 0 = ap queued free in let most = total-at queued_of s.views t.0 t.1 t.2 in omega arith)) r.home in
+          record {
         object = home.0;
         slot = f.4 0 (Here home.0) (ap (λ l. get_elem? l 0) home.1);
         word = ap (λ (l : List ℕ). get_elem? l 0) (sym f.2 ∙ r.words) ∙ ap (λ (l : List (Entry C R)). some (length l % 2 ^ 64)) (sym seen);
@@ -81,18 +88,22 @@ module _ {O S C R : Type 0} (m : Meaning O S C R) (key : Origin S) where
 
 module _ {O S C R : Type 0} (m : Meaning O S C R) where
   -- the same of the start that the table was told
-  pub may-close : (told start : Start O) (id : ℕ) (v : Known S C R) (ws : List ℕ) (xs : List (Held O C R)) → told ≡ start → v.stage ≡ Free → v.parts ≡ start.parts
+  pub may-close : (told start : Start O) (id : ℕ) (v : Known S C R) (ws : List ℕ) (xs : List (Held O C R)) → told ≡ start → v.stage ≡ Free
+      → v.parts ≡ start.parts
       → Final (Seen (Kept m (origin_of m.state m.faults told)) id v) ws xs → Closing m (origin_of m.state m.faults start) v.at ws xs
   may-close told start id v ws xs same free all final =
-      closes m (origin_of m.state m.faults start) id v ws xs free all (subst (λ (z : Start O). Final (Seen (Kept m (origin_of m.state m.faults z)) id v) ws xs) same final)
+      closes m (origin_of m.state m.faults start) id v ws xs free all
+          (subst (λ (z : Start O). Final (Seen (Kept m (origin_of m.state m.faults z)) id v) ws xs) same final)
 
-module _ {O S C R : Type 0} (m : Meaning O S C R) (key : Origin S) (v : View C R) (ws : List ℕ) (xs : List (Held O C R)) (closing : Closing m key v ws xs) where
+module _ {O S C R : Type 0} (m : Meaning O S C R) (key : Origin S) (v : View C R) (ws : List ℕ) (xs : List (Held O C R))
+    (closing : Closing m key v ws xs) where
   -- what was taken out of the slot is the object
   pub is-here : (held : Held O C R) → get_elem? xs 0 ≡ some held → held ≡ Here closing.object
   is-here held taken = some-injective held (Here closing.object) (sym taken ∙ closing.slot)
 
   -- the object and the number that were taken out
-  pub ends : (held : Held O C R) (object : O) (count : ℕ) → get_elem? xs 0 ≡ some held → held ≡ Here object → get_elem? ws 0 ≡ some count → Ends m key v object count
+  pub ends : (held : Held O C R) (object : O) (count : ℕ) → get_elem? xs 0 ≡ some held → held ≡ Here object → get_elem? ws 0 ≡ some count
+      → Ends m key v object count
   ends held object count taken is word =
       let same : Here closing.object ≡ Here object = sym (is-here held taken) ∙ is in
       let object_is : closing.object ≡ object = cc (same) in

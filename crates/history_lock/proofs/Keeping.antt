@@ -38,7 +38,8 @@ module _ {O S C R : Type 0} (m : Meaning O S C R) (key : Origin S) where
   same-stage s r id v at j t u other there x y = other (r.apart j id t u v there at x y)
 
   -- a step that changes neither the words nor what is told of a seat above the rule
-  pub restated : (s : State (Held O C R) (Known S C R)) → Rule s → (id : ℕ) (v : Known S C R) → get_elem? s.views id ≡ some v → (n : ℕ) (ts : List (Entry C R)) → IsPrefix ts v.at.seen
+  pub restated : (s : State (Held O C R) (Known S C R)) → Rule s → (id : ℕ) (v : Known S C R) → get_elem? s.views id ≡ some v
+      → (n : ℕ) (ts : List (Entry C R)) → IsPrefix ts v.at.seen
       → Rule record { words = s.words; homes = s.homes; views = set s.views id (record v { offer = n; told = ts }) }
   restated s r id v at n ts pre = let w : Known S C R = record v { offer = n; told = ts } in record {
     log = r.log;
@@ -79,7 +80,8 @@ module _ {O S C R : Type 0} (m : Meaning O S C R) (key : Origin S) where
         w,
         keeps,
         tt,
-        subst (λ (ws : List ℕ). Rule record { words = ws; homes = s.homes; views = set s.views id w }) (sym (ap (set s.words 0) (same (get_or s.words 0 0)) ∙ load-same s.words 0))
+        subst (λ (ws : List ℕ). Rule record { words = ws; homes = s.homes; views = set s.views id w })
+            (sym (ap (set s.words 0) (same (get_or s.words 0 0)) ∙ load-same s.words 0))
             (restated s r id me.0 at n me.0.told (r.each id me.0 at).told),
         refl,
       )

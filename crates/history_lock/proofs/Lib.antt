@@ -1,4 +1,3 @@
-pub mod Booleans
 pub mod Whos
 pub mod Picks
 pub mod Beginnings

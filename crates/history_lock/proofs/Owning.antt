@@ -3,7 +3,7 @@ use Rattle.std.proofs.Common.{◌≡◌, ℕ, ◌+◌, ◌<◌, ◌≤◌, ◌�
 use Rattle.std.proofs.lemmas.Bool.Decides.{nat_tests}
 use Rattle.history_lock.specs.Places.{times, is_own, Within, AllPlaces}
 use Rattle.history_lock.specs.Rule.{below}
-use Rattle.history_lock.proofs.Booleans.{or-not-first, or-not-second, or-neither}
+use Rattle.std_words.proofs.Tests.{or-not-first, or-not-second, or-neither}
 
 -- how often a place is in two lists
 pub times-append : (xs ys : List ℕ) (i : ℕ) → times (xs ++ ys) i ≡ times xs i + times ys i

@@ -32,14 +32,16 @@ module _ {X : Type 0} where
   total-below f g (x ∷ xs) h = let head = h 0 x refl in let rest = total-below f g xs (λ i v at. h (suc i) v at) in omega arith
 
   -- where there is nothing of p, there is nothing of f
-  total-none : (p f : X → ℕ) (xs : List X) → total p xs ≡ 0 → ((i : ℕ) (v : X) → get_elem? xs i ≡ some v → p v ≡ 0 → f v ≡ 0) → total f xs ≡ 0
+  total-none : (p f : X → ℕ) (xs : List X) → total p xs ≡ 0 → ((i : ℕ) (v : X) → get_elem? xs i ≡ some v → p v ≡ 0 → f v ≡ 0)
+      → total f xs ≡ 0
   total-none p f [] e h = refl
   total-none p f (x ∷ xs) e h =
       let head = h 0 x refl (omega arith) in
       let rest = total-none p f xs (omega arith) (λ i v at. h (suc i) v at) in omega arith
 
   -- where one value has all there is of p, and only what has some of p has some of f, it has all there is of f
-  pub total-alone : (p f : X → ℕ) (xs : List X) (i : ℕ) (v : X) → get_elem? xs i ≡ some v → total p xs ≡ p v → ((i : ℕ) (v : X) → get_elem? xs i ≡ some v → p v ≡ 0 → f v ≡ 0) → total f xs ≡ f v
+  pub total-alone : (p f : X → ℕ) (xs : List X) (i : ℕ) (v : X) → get_elem? xs i ≡ some v → total p xs ≡ p v
+      → ((i : ℕ) (v : X) → get_elem? xs i ≡ some v → p v ≡ 0 → f v ≡ 0) → total f xs ≡ f v
   total-alone p f [] i v at e h = absurd (some-ne-none v (sym at))
   total-alone p f (x ∷ xs) zero v at e h =
       let same = some-injective x v at in

@@ -20,7 +20,8 @@ module _ {O S C R : Type 0} where
 
 module _ {O S C R : Type 0} (m : Meaning O S C R) (key : Origin S) where
   -- a seat that waits may look
-  pub may-look : (slots id t : ℕ) (old mid : Me (Held O C R) (Known S C R)) (o : Origin S) → Waiting old t mid → old.0.origin ≡ Some o → old.1 ≡ []
+  pub may-look : (slots id t : ℕ) (old mid : Me (Held O C R) (Known S C R)) (o : Origin S) → Waiting old t mid → old.0.origin ≡ Some o
+      → old.1 ≡ []
       → Allows (Kept m key) slots id mid 2 (λ n. n) (looks m (step slots 2 0 0 none) mid)
   may-look slots id t old mid o w from empty =
       looks-allowed m key slots id t mid o
@@ -44,20 +45,24 @@ module _ {O S C R : Type 0} (m : Meaning O S C R) where
   }
 
   -- the look found the seat's ticket
-  pub has-turn : (t found : ℕ) (old mid new : Me (Held O C R) (Known S C R)) → Waiting old t mid → looks m (step 1 2 0 0 none) mid found new → found ≡ t % 2 ^ 64 → Served m t old new
+  pub has-turn : (t found : ℕ) (old mid new : Me (Held O C R) (Known S C R)) → Waiting old t mid
+      → looks m (step 1 2 0 0 none) mid found new → found ≡ t % 2 ^ 64 → Served m t old new
   has-turn t found old mid new w look hit =
       served-since t old mid new w ((look t (ap (λ (z : Me (Held O C R) (Known S C R)). z.0.stage) w.is)).1 hit)
 
   -- it always does where the seat has all parts
-  pub has-turn-alone : (t found : ℕ) (old mid new : Me (Held O C R) (Known S C R)) (o : Origin S) → Waiting old t mid → looks m (step 1 2 0 0 none) mid found new → old.0.origin ≡ Some o → old.0.parts ≡ o.parts
+  pub has-turn-alone : (t found : ℕ) (old mid new : Me (Held O C R) (Known S C R)) (o : Origin S) → Waiting old t mid
+      → looks m (step 1 2 0 0 none) mid found new → old.0.origin ≡ Some o → old.0.parts ≡ o.parts
       → Served m t old new
   has-turn-alone t found old mid new o w look from all =
       let l = look t (ap (λ (z : Me (Held O C R) (Known S C R)). z.0.stage) w.is) in
       served-since t old mid new w
-      (l.1 (l.2 o (ap (λ (z : Me (Held O C R) (Known S C R)). z.0.origin) w.is ∙ from) (ap (λ (z : Me (Held O C R) (Known S C R)). z.0.parts) w.is ∙ all)))
+      (l.1 (l.2 o (ap (λ (z : Me (Held O C R) (Known S C R)). z.0.origin) w.is
+          ∙ from) (ap (λ (z : Me (Held O C R) (Known S C R)). z.0.parts) w.is ∙ all)))
 
   -- and then nothing came since its last call
-  pub sees-no-more : (t : ℕ) (old new : Me (Held O C R) (Known S C R)) (o : Origin S) → Served m t old new → old.0.origin ≡ Some o → old.0.parts ≡ o.parts → new.0.at ≡ old.0.at
+  pub sees-no-more : (t : ℕ) (old new : Me (Held O C R) (Known S C R)) (o : Origin S) → Served m t old new → old.0.origin ≡ Some o
+      → old.0.parts ≡ o.parts → new.0.at ≡ old.0.at
   sees-no-more t old new o s from all = let same : o ≡ s.key = cc (from, s.origin) in s.alone (all ∙ ap (λ (z : Origin S). z.parts) same)
 
 module _ {O S C R : Type 0} (m : Meaning O S C R) (key : Origin S) where
@@ -69,7 +74,8 @@ module _ {O S C R : Type 0} (m : Meaning O S C R) (key : Origin S) where
     pub stands : StandsAt m key me.0.at.seen object
 
   -- by cases on the stage
-  in-turn-at : (me : Me (Held O C R) (Known S C R)) (stage : Stage) → me.0.stage ≡ stage → is_turn stage ≡ true → HasSlot m key me stage → (object : O) × InTurn me object
+  in-turn-at : (me : Me (Held O C R) (Known S C R)) (stage : Stage) → me.0.stage ≡ stage → is_turn stage ≡ true → HasSlot m key me stage
+      → (object : O) × InTurn me object
   in-turn-at me Free e b h = absurd (cc (b))
   in-turn-at me (Waits t) e b h = absurd h
   in-turn-at me (Serves t) e b h = (h.0, record { ticket = t; serves = e; slot = h.1; stands = h.2 })
@@ -79,7 +85,8 @@ module _ {O S C R : Type 0} (m : Meaning O S C R) (key : Origin S) where
   in-turn me sits turn = in-turn-at me me.0.stage refl turn sits.slot
 
   -- the object that was found there
-  pub in-turn-with : (me : Me (Held O C R) (Known S C R)) (object : O) → Sits m key me → is_turn me.0.stage ≡ true → me.1 ≡ (0, Here object) ∷ [] → InTurn me object
+  pub in-turn-with : (me : Me (Held O C R) (Known S C R)) (object : O) → Sits m key me → is_turn me.0.stage ≡ true
+      → me.1 ≡ (0, Here object) ∷ [] → InTurn me object
   in-turn-with me object sits turn slot =
       let h = in-turn me sits turn in
       let pair : ◌≡◌ {A = ℕ × Held O C R} (0, Here h.0) (0, Here object) = cc (h.1.slot, slot) in

@@ -20,12 +20,14 @@ module _ {C R : Type 0} where
   }
 
   -- a call after what came
-  pub longer-logged : (a b c : View C R) (who : Who) (call : C) (reply : R) → Longer a b → LoggedNext b c who call reply → Logged a c who call reply
+  pub longer-logged : (a b c : View C R) (who : Who) (call : C) (reply : R) → Longer a b → LoggedNext b c who call reply
+      → Logged a c who call reply
   longer-logged a b c who call reply p q = record {
     between = p.more;
     before = q.before;
     after = q.after;
-    seen = q.seen ∙ ap (λ (l : List (Entry C R)). l ++ record { who = who; call = call; reply = reply; before = q.before; after = q.after } ∷ []) p.seen;
+    seen = q.seen ∙ ap (λ (l : List (Entry C R)). l ++ record { who = who; call = call; reply = reply; before = q.before;
+        after = q.after } ∷ []) p.seen;
     own = q.own ∙ (λ i. p.own i ++ length (p.seen i) ∷ []);
   }
 

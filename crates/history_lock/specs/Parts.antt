@@ -29,7 +29,8 @@ is_turn _ = false
 
 -- a seat of that history, with this number and this view
 abbrev pub sitting : {S C R : Type 0} → TableId → Origin S → ℕ → Known S C R → Sitting S C R
-sitting name origin number v = record { history = beginning name origin; number = number; parts = v.parts; held = is_turn v.stage; at = v.at }
+sitting name origin number v =
+    record { history = beginning name origin; number = number; parts = v.parts; held = is_turn v.stage; at = v.at }
 
 module _ {O S C R : Type 0} where
   -- a seat has the slot in a turn alone, and then the object stands where it has seen the history lead
@@ -47,7 +48,8 @@ module _ {O S C R : Type 0} where
     pub legally : legal m.allows m.next key.opening key.first me.0.at.seen
 
   -- in its turn the seat made a call, which was logged, and sits as before
-  pub record Called (m : Meaning O S C R) (key : Origin S) (old new : Me (Held O C R) (Known S C R)) (who : Who) (call : C) (reply : R) : Type 0 where
+  pub record Called (m : Meaning O S C R) (key : Origin S) (old new : Me (Held O C R) (Known S C R)) (who : Who) (call : C) (reply : R)
+      : Type 0 where
     pub sits : Sits m key new
     pub same : new.0 ≡ record old.0 { at = new.0.at }
     pub logged : LoggedNext old.0.at new.0.at who call reply

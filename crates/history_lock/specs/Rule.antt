@@ -108,5 +108,6 @@ module _ {O S C R : Type 0} where
     pub queue : passed + total queued_of s.views ≡ drawn
     pub places : (i : ℕ) → total (times_of i) s.views ≡ below (length log) i
     pub each : (id : ℕ) (v : Known S C R) → get_elem? s.views id ≡ some v → Fits key log drawn passed v
-    pub apart : (i j t : ℕ) (v w : Known S C R) → get_elem? s.views i ≡ some v → get_elem? s.views j ≡ some w → HasTicket v.stage t → HasTicket w.stage t → i ≡ j
+    pub apart : (i j t : ℕ) (v w : Known S C R) → get_elem? s.views i ≡ some v → get_elem? s.views j ≡ some w
+        → HasTicket v.stage t → HasTicket w.stage t → i ≡ j
     pub home : Placed m key log passed s.homes s.views

@@ -3,7 +3,8 @@ use Rattle.std.specs.Prelude.{ℕ, ◌≡◌, Bool, false}
 use Rattle.atomic_table.specs.Seated.{TableId}
 use Rattle.history_lock.specs.declared.view.View.{View}
 
--- a history: its name, which no other has, the state and the count of faults of the object that it was made with, and the parts of all its seats
+-- a history: its name, which no other has, the state and the count of faults of the object that it was made with, and the
+-- parts of all its seats
 pub record Beginning (S : Type 0) : Type 0 where
   pub name : TableId
   pub opening : S

@@ -39,7 +39,11 @@ module _ {S C R : Type 0} where
 
   -- the seat after a join
   abbrev pub merged : Known S C R → Known S C R → Known S C R
-  merged v w = record v { parts = v.parts + w.parts; at = record { seen = longer v.at.seen w.at.seen; own = v.at.own ++ w.at.own }; told = shorter v.at.seen w.at.seen }
+  merged v w = record v {
+    parts = v.parts + w.parts;
+    at = record { seen = longer v.at.seen w.at.seen; own = v.at.own ++ w.at.own };
+    told = shorter v.at.seen w.at.seen;
+  }
 
   -- the other one, which knows nothing
   abbrev pub spent : Known S C R
@@ -48,7 +52,13 @@ module _ {S C R : Type 0} where
 module _ {O C R : Type 0} where
   -- the entry of a note
   abbrev pub entry_of : (O → ℕ) → Note O C R → Entry C R
-  entry_of faults n = record { who = n.who; call = n.call.value; reply = n.reply.value; before = faults n.before.value; after = faults n.after.value }
+  entry_of faults n = record {
+    who = n.who;
+    call = n.call.value;
+    reply = n.reply.value;
+    before = faults n.before.value;
+    after = faults n.after.value;
+  }
 
   -- the call of a note came last, and its place is one more of the seat's own
   abbrev pub logged : (O → ℕ) → Note O C R → View C R → View C R

@@ -4,6 +4,7 @@
 mod closed;
 mod entry;
 mod history;
+mod laws;
 mod object;
 mod refused;
 mod rule;
@@ -17,6 +18,7 @@ mod view;
 pub use closed::{Closed, Past};
 pub use entry::{Entry, Who};
 pub use history::History;
+pub use laws::legal_calls_might_be_made;
 pub use object::Object;
 pub use refused::NoMemory;
 pub use seat::{Seat, Turn};

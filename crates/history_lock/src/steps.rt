@@ -65,7 +65,8 @@ pub(crate) fn take_turn<O: Object, R: Wait>(rt: &R, top: &Top<O>, place: &mut Pl
 /// The same for a seat with all parts, which has nobody before it.
 pub(crate) fn take_turn_alone<O: Object>(top: &Top<O>, place: &mut Place<O>)
     requires table { (place.old.table_id ≡ top.now.table_id) × IsLock top.now.table_id }
-    requires sits { (key : _) × (place.old.me.0.origin ≡ Some key) × (0 < place.old.me.0.parts) × (place.old.me.0.parts ≡ key.parts) }
+    requires sits { (key : _) × (place.old.me.0.origin ≡ Some key) × (0 < place.old.me.0.parts)
+        × (place.old.me.0.parts ≡ key.parts) }
     requires free { (place.old.me.0.stage ≡ Free) × (place.old.me.1 ≡ []) }
     ensures same { (place.new.table_id ≡ place.old.table_id) × (place.new.id ≡ place.old.id) }
     ensures served { (t : ℕ) × Served (meaning O.state O.faults O.allows O.next) t place.old.me place.new.me }
@@ -112,7 +113,8 @@ pub(crate) fn make_call<O: Object>(
     requires turn { is_turn place.old.me.0.stage ≡ true }
     requires accepted { O.accepts call ≡ true }
     ensures same { (place.new.table_id ≡ place.old.table_id) × (place.new.id ≡ place.old.id) }
-    ensures called { Called (meaning O.state O.faults O.allows O.next) (origin_of O.state O.faults start.now.value) place.old.me place.new.me who call result }
+    ensures called { Called (meaning O.state O.faults O.allows O.next) (origin_of O.state O.faults start.now.value)
+        place.old.me place.new.me who call result }
 {
     let asked = Snapshot::of(&call);
     let mut object = take_object(top, place);

@@ -1,4 +1,3 @@
-pub mod Steps
 pub mod Documents
 pub mod InOrder
 pub mod Parts

@@ -1,5 +1,6 @@
 -- What `take` answers of a front, and what its parts answer.
 use Rattle.std.specs.Prelude.{ℕ, ◌≡◌, ◌≤◌, List, length, take, Some, Result, Ok, Err}
+use Rattle.op_msg.specs.Limits.{LEAST_MESSAGE}
 use Rattle.op_msg.specs.Stream.{message}
 use Rattle.op_msg.specs.Reading.{Fault, short, fault}
 use Rattle.op_msg.specs.declared.message.Message.{Message}
@@ -11,7 +12,7 @@ use Rattle.op_msg.specs.declared.refused.Refused.TheVariants as refused
 -- the first bytes are the message
 pub record Begins (bytes : List ℕ) (m : Message) (used : ℕ) : Type 0 where
   pub within : used ≤ length bytes
-  pub some : 16 ≤ used
+  pub some : LEAST_MESSAGE ≤ used
   pub alone : message (take used bytes) m
 
 -- what was taken is what stands at the front

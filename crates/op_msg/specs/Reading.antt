@@ -1,5 +1,6 @@
 -- What stands at the front of a stream, read from the left, or the first fault there: its kind, and its place from the front.
-use Rattle.std.specs.Prelude.{ℕ, ℤ, zero, suc, ◌≡◌, ◌⊎◌, ◌+◌, ◌-◌, ◌<◌, ◌==◌, ◌||◌, Bool, nat_lt, if◌then◌else◌, List, [], ◌∷◌, ◌++◌, length, take, drop, slice_index, Option, None, Some, Result, Ok, Err}
+use Rattle.std.specs.Prelude.{ℕ, ℤ, zero, suc, ◌≡◌, ◌⊎◌, ◌+◌, ◌-◌, ◌<◌, ◌==◌, ◌||◌, Bool, nat_lt, if◌then◌else◌}
+use Rattle.std.specs.Prelude.{List, [], ◌∷◌, ◌++◌, length, take, drop, slice_index, Option, None, Some, Result, Ok, Err}
 use Rattle.std.specs.Int.{w32, cast_signed}
 use Rattle.std.specs.Option.{option_or}
 use Rattle.byteorder.specs.Endian.{little_number}
@@ -7,6 +8,8 @@ use Rattle.bson_values.specs.declared.pairs.Pair.{Pair}
 use Rattle.bson_values.specs.declared.value.Value.{Value}
 use Rattle.bson_wire.specs.declared.foreign.Foreign.{Foreign}
 use Rattle.bson_wire.specs.Reading.{◌>>=◌, document_at, name_at, first}
+use Rattle.std_words.specs.Steps.{fault_of}
+use Rattle.op_msg.specs.Limits.{LEAST_MESSAGE, MOST_MESSAGE, MOST_NESTED, BEFORE_SECTIONS, OP_MSG}
 use Rattle.op_msg.specs.Stream.{moved}
 use Rattle.op_msg.specs.declared.message.Message.{Message}
 use Rattle.op_msg.specs.declared.message.Sequence.{Sequence}
@@ -25,23 +28,23 @@ stated bytes = little_number 4 bytes
 unfoldable pub early : List ℕ → Option Fault
 early bytes =
     if nat_lt (length bytes) 4 then None
-    else if nat_lt (stated bytes) 16 then Some (Length, 0)
-    else if nat_lt 48000000 (stated bytes) then Some (Length, 0)
-    else if nat_lt (length bytes) 16 then None
-    else if little_number 4 (drop 12 bytes) == 2013 then None
+    else if nat_lt (stated bytes) LEAST_MESSAGE then Some (Length, 0)
+    else if nat_lt MOST_MESSAGE (stated bytes) then Some (Length, 0)
+    else if nat_lt (length bytes) LEAST_MESSAGE then None
+    else if little_number 4 (drop 12 bytes) == OP_MSG then None
     else Some (OpCode, 12)
 
--- not all of a message yet, and no early fault: fewer than 16 bytes, or fewer than they state
+-- not all of a message yet, and no early fault: fewer bytes than a header has, or fewer than they state
 abbrev pub short : List ℕ → Type 0
-short bytes = (early bytes ≡ None) × ((length bytes < 16) ⊎ (length bytes < stated bytes))
+short bytes = (early bytes ≡ None) × ((length bytes < LEAST_MESSAGE) ⊎ (length bytes < stated bytes))
 
 -- the sections of a whole message, behind its flags
 unfoldable pub sections_at : List ℕ → Result (List ℕ) Fault
 sections_at bytes =
-    if nat_lt (length bytes) 20 then Err (Section, 16)
+    if nat_lt (length bytes) BEFORE_SECTIONS then Err (Section, 16)
     else if nat_lt 1 (little_number 2 (drop 16 bytes)) then Err (Flags, 16)
     else if little_number 2 (drop 16 bytes) == 1 then Err (Checksum, 16)
-    else Ok (drop 20 bytes)
+    else Ok (drop BEFORE_SECTIONS bytes)
 
 -- what was read at the front: a value, the first foreign element in it, and the bytes behind it
 abbrev pub Found : Type 0 → Type 0
@@ -56,7 +59,7 @@ in_message place (Err at) = Err (Document, place + at)
 unfoldable pub document_in : ℕ → ℕ → List ℕ → Result (Found (List (Pair Value))) Fault
 document_in section place bytes =
     if nat_lt (length bytes) 4 then Err (Section, section)
-    else in_message place (document_at 128 (length bytes) bytes)
+    else in_message place (document_at MOST_NESTED (length bytes) bytes)
 
 module _ {A : Type 0} (goes_on : List ℕ → Bool) (one : List ℕ → Result (Found A) Fault) where
   -- one after another, as long as the bytes go on with one; `most` bounds how many
@@ -132,12 +135,8 @@ unfoldable pub message_at : List ℕ → Result Message Fault
 message_at bytes =
     sections_at bytes >>= λ sections. content_at (cast_signed w32 (little_number 4 (drop 4 bytes))) (length bytes) sections
 
--- the fault, where there is one
-abbrev pub fault_of : {A : Type 0} → Result A Fault → Option Fault
-fault_of (Ok found) = None
-fault_of (Err fault) = Some fault
-
 -- the first fault, in the order in which faults are looked at; none where a message stands at the front, or a part of one
 unfoldable pub fault : List ℕ → Option Fault
 fault bytes = option_or (early bytes)
-    (if nat_lt (length bytes) 16 || nat_lt (length bytes) (stated bytes) then None else fault_of (message_at (take (stated bytes) bytes)))
+    (if nat_lt (length bytes) LEAST_MESSAGE || nat_lt (length bytes) (stated bytes) then None
+    else fault_of (message_at (take (stated bytes) bytes)))

@@ -8,12 +8,13 @@ use Rattle.bson_wire.specs.Spelling.{int32, cstring}
 use Rattle.bson_wire.specs.declared.foreign.Foreign.{Foreign}
 use Rattle.bson_wire.specs.Grammar.{IsName, spells}
 use Rattle.bson_wire.specs.Reading.{first}
+use Rattle.op_msg.specs.Limits.{LEAST_MESSAGE, MOST_MESSAGE, BEFORE_SECTIONS, OP_MSG}
 use Rattle.op_msg.specs.declared.message.Sequence.{Sequence}
 use Rattle.op_msg.specs.declared.message.Message.{Message}
 
 -- a messageLength that a message may state
 abbrev pub InRange : ℕ → Type 0
-InRange size = (16 ≤ size) × (size ≤ 48000000)
+InRange size = (LEAST_MESSAGE ≤ size) × (size ≤ MOST_MESSAGE)
 
 -- a foreign element of a document that stands at this place of a message
 abbrev pub moved : ℕ → Option Foreign → Option Foreign
@@ -68,9 +69,9 @@ pub record message (bytes : List ℕ) (m : Message) : Type 0 where
   pub request : FitsSigned w32 m.request
   pub four : length response_to ≡ 4
   pub two : length high_flags ≡ 2
-  pub whole : bytes ≡ int32 (length bytes) ++ int32 (cast_unsigned w32 m.request) ++ response_to ++ int32 2013
+  pub whole : bytes ≡ int32 (length bytes) ++ int32 (cast_unsigned w32 m.request) ++ response_to ++ int32 OP_MSG
       ++ (0 ∷ 0 ∷ []) ++ high_flags ++ sections
-  pub are : AreSections 20 sections m
+  pub are : AreSections BEFORE_SECTIONS sections m
 
 -- the messages one after another, then the rest
 abbrev pub in_order : List ℕ → List Message → List ℕ → Type 0

@@ -17,6 +17,4 @@ pub use reply::{head, put_reply};
 pub use taking::take;
 
 #[cfg(test)]
-mod sequences;
-#[cfg(test)]
 mod tests;

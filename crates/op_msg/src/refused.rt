@@ -4,7 +4,8 @@ use bson_values::NoMemory;
 /// Why no message was read.
 #[derive(Debug, Drop)]
 pub(crate) enum Refused {
-    Bad { kind: BadKind, place: u64 },
+    /// The kind of the fault, and its place.
+    Bad(BadKind, u64),
     NoMemory,
 }
 

@@ -1,20 +1,23 @@
 ghost use Rattle.std.specs.Prelude.{◌≡◌, ◌≤◌, ◌<◌, ◌+◌, ◌-◌, ◌==◌, ◌++◌, [], length, slice_index, IfOk};
 ghost use Rattle.bson_wire.specs.Reading.{Before, document_at};
+ghost use Rattle.op_msg.specs.Limits.{MOST_MESSAGE, MOST_NESTED};
 ghost use Rattle.op_msg.specs.Stream.{moved};
-ghost use Rattle.op_msg.specs.Reading.{in_message, document_in, documents_at, sized_at, sequence_at, sequences_at, body_at, end_at, content_at, behind_those};
+ghost use Rattle.op_msg.specs.Reading.{in_message, document_in, documents_at, sized_at, sequence_at, sequences_at, behind_those};
+ghost use Rattle.op_msg.specs.Reading.{body_at, end_at, content_at};
 ghost use Rattle.op_msg.specs.Front.{Gives};
 
 use crate::message::{BadKind, Message, Sequence};
 use crate::refused::Refused;
-use bson_values::{Document, List, Text, head, tail};
+use bson_values::{Document, List, Text};
 use bson_wire::{Foreign, ReadRefused, name, read};
 use byteorder::{ByteOrder, LittleEndian};
 use std::alloc::Global;
+use std_words::{head, tail};
 
 /// A foreign element of a document that begins at `place`, with its place in the message.
 fn moved(foreign: Option<Foreign>, place: u64) -> Option<Foreign>
-    requires within { place ≤ 48000000 }
-    requires near { Before 48000000 foreign }
+    requires within { place ≤ MOST_MESSAGE }
+    requires near { Before MOST_MESSAGE foreign }
     ensures { result ≡ moved place foreign }
 {
     match foreign {
@@ -32,9 +35,9 @@ fn read_at(
     bytes: &[u8],
     place: u64,
 ) -> Result<(Document, Option<Foreign>, &[u8]), Refused>
-    requires { place + length bytes.now ≤ 48000000 }
+    requires { place + length bytes.now ≤ MOST_MESSAGE }
     ensures value { Gives (λ it. (it.0, it.1, it.2.now)) result
-        (in_message place (document_at 128 (length bytes.now) bytes.now)) }
+        (in_message place (document_at MOST_NESTED (length bytes.now) bytes.now)) }
     ensures shorter { IfOk result (λ it. length it.2.now < length bytes.now) }
 {
     match read(alloc, bytes) {
@@ -42,10 +45,7 @@ fn read_at(
             let foreign = moved(front.foreign, place);
             Ok((front.doc, foreign, tail(bytes, front.used as usize)))
         }
-        Err(ReadRefused::Malformed(at)) => Err(Refused::Bad {
-            kind: BadKind::Document,
-            place: place + at,
-        }),
+        Err(ReadRefused::Malformed(at)) => Err(Refused::Bad(BadKind::Document, place + at)),
         Err(ReadRefused::NoMemory) => Err(Refused::NoMemory),
     }
 }
@@ -58,15 +58,12 @@ fn document(
     place: u64,
     section: u64,
 ) -> Result<(Document, Option<Foreign>, &[u8]), Refused>
-    requires { place + length bytes.now ≤ 48000000 }
+    requires { place + length bytes.now ≤ MOST_MESSAGE }
     ensures value { Gives (λ it. (it.0, it.1, it.2.now)) result (document_in section place bytes.now) }
     ensures shorter { IfOk result (λ it. length it.2.now < length bytes.now) }
 {
     if bytes.len() < 4 {
-        return Err(Refused::Bad {
-            kind: BadKind::Section,
-            place: section,
-        });
+        return Err(Refused::Bad(BadKind::Section, section));
     }
     read_at(alloc, bytes, place)
 }
@@ -79,7 +76,7 @@ fn documents(
     section: u64,
 ) -> Result<(List<Document>, Option<Foreign>), Refused>
     requires within { length bytes.now ≤ end }
-    requires near { end ≤ 48000000 }
+    requires near { end ≤ MOST_MESSAGE }
     ensures { Gives (λ it. (it.0, it.1, [])) result (documents_at end section bytes.now) }
 {
     let mut docs = List::new(alloc);
@@ -107,23 +104,14 @@ fn sized(bytes: &[u8], section: u64) -> Result<(&[u8], &[u8]), Refused>
     ensures shorter { IfOk result (λ it. length it.0.now + length it.1.now ≤ length bytes.now) }
 {
     if bytes.len() < 4 {
-        return Err(Refused::Bad {
-            kind: BadKind::Section,
-            place: section,
-        });
+        return Err(Refused::Bad(BadKind::Section, section));
     }
     let size = LittleEndian::read_u32(bytes) as usize;
     if size < 5 {
-        return Err(Refused::Bad {
-            kind: BadKind::Section,
-            place: section,
-        });
+        return Err(Refused::Bad(BadKind::Section, section));
     }
     if bytes.len() < size {
-        return Err(Refused::Bad {
-            kind: BadKind::Section,
-            place: section,
-        });
+        return Err(Refused::Bad(BadKind::Section, section));
     }
     Ok((tail(head(bytes, size), 4), tail(bytes, size)))
 }
@@ -137,19 +125,14 @@ fn sequence(
     section: u64,
 ) -> Result<(Sequence, Option<Foreign>, &[u8]), Refused>
     requires within { length bytes.now ≤ end }
-    requires near { end ≤ 48000000 }
+    requires near { end ≤ MOST_MESSAGE }
     ensures value { Gives (λ it. (it.0, it.1, it.2.now)) result (sequence_at end section bytes.now) }
     ensures shorter { IfOk result (λ it. length it.2.now ≤ length bytes.now) }
 {
     let (inside, rest) = sized(bytes, section)?;
     let (identifier, inside) = match name(inside, section) {
         Ok(found) => found,
-        Err(_) => {
-            return Err(Refused::Bad {
-                kind: BadKind::Section,
-                place: section,
-            });
-        }
+        Err(_) => return Err(Refused::Bad(BadKind::Section, section)),
     };
     let (docs, foreign) = documents(alloc, inside, end - rest.len() as u64, section)?;
     let name = Text::of(alloc, identifier)?;
@@ -164,7 +147,7 @@ fn sequences(
     end: u64,
 ) -> Result<(List<Sequence>, Option<Foreign>, &[u8]), Refused>
     requires within { length bytes.now ≤ end }
-    requires near { end ≤ 48000000 }
+    requires near { end ≤ MOST_MESSAGE }
     ensures value { Gives (λ it. (it.0, it.1, it.2.now)) result (behind_those before (sequences_at end bytes.now)) }
     ensures shorter { IfOk result (λ it. length it.2.now ≤ length bytes.now) }
 {
@@ -194,22 +177,16 @@ fn body(
     end: u64,
 ) -> Result<(Document, Option<Foreign>, &[u8]), Refused>
     requires within { length bytes.now ≤ end }
-    requires near { end ≤ 48000000 }
+    requires near { end ≤ MOST_MESSAGE }
     ensures value { Gives (λ it. (it.0, it.1, it.2.now)) result (body_at end bytes.now) }
     ensures shorter { IfOk result (λ it. length it.2.now ≤ length bytes.now) }
 {
     if bytes.len() == 0 {
-        return Err(Refused::Bad {
-            kind: BadKind::Body,
-            place: end,
-        });
+        return Err(Refused::Bad(BadKind::Body, end));
     }
     let section = end - bytes.len() as u64;
     if bytes[0] != 0 {
-        return Err(Refused::Bad {
-            kind: BadKind::Section,
-            place: section,
-        });
+        return Err(Refused::Bad(BadKind::Section, section));
     }
     document(alloc, tail(bytes, 1), section + 1, section)
 }
@@ -218,17 +195,14 @@ fn body(
 #[tactic(auto, unfolding(crate::specs::Reading::end_at))]
 fn ended(alloc: Global, bytes: &[u8], end: u64) -> Result<(), Refused>
     requires within { length bytes.now ≤ end }
-    requires near { end ≤ 48000000 }
+    requires near { end ≤ MOST_MESSAGE }
     ensures { Gives (λ it. it) result (end_at end bytes.now) }
 {
     if bytes.len() == 0 {
         return Ok(());
     }
     match body(alloc, bytes, end) {
-        Ok(_) => Err(Refused::Bad {
-            kind: BadKind::Body,
-            place: end - bytes.len() as u64,
-        }),
+        Ok(_) => Err(Refused::Bad(BadKind::Body, end - bytes.len() as u64)),
         Err(refused) => Err(refused),
     }
 }
@@ -242,7 +216,7 @@ pub(crate) fn content(
     end: u64,
 ) -> Result<Message, Refused>
     requires within { length sections.now ≤ end }
-    requires near { end ≤ 48000000 }
+    requires near { end ≤ MOST_MESSAGE }
     ensures { Gives (λ it. it) result (content_at request end sections.now) }
 {
     let (front, ahead, rest) = sequences(alloc, List::new(alloc), sections, end)?;

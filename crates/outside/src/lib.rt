@@ -6,14 +6,12 @@ mod memory_link;
 mod memory_world;
 mod source;
 mod sure_link;
-mod sure_world;
 mod world;
 
 pub use link::{Failed, Gate, Link};
 pub use memory_link::MemoryLink;
 pub use memory_world::MemoryWorld;
 pub use sure_link::SureLink;
-pub use sure_world::SureWorld;
 pub use world::World;
 
 #[cfg(test)]

@@ -1,31 +1,34 @@
-ghost use Rattle.std.specs.Prelude.{◌≡◌, Some, None, is_none, option_map, IsSome};
-ghost use Rattle.outside.specs.MemoryLink.{IsFreshMemoryLink};
+ghost use Rattle.std.specs.Prelude.{◌≡◌, Some, None, is_none, IsSome};
+ghost use Rattle.std.specs.Option.{option_and_then};
+ghost use Rattle.outside.specs.Told.{IsFresh};
 
-use crate::memory_link::MemoryLink;
+use crate::link::Link;
 use crate::world::World;
 use std::marker::Model;
 
-/// A world in memory. Contracts see its console, until it is given.
+/// A world in memory, whose console is a link that was made before. Contracts see it, until it is given.
 #[derive(Debug, Drop)]
-pub struct MemoryWorld {
-    console: Option<MemoryLink>,
+pub struct MemoryWorld<L: Link> {
+    console: Option<L>,
 }
 
-impl Model for MemoryWorld {
+impl<L: Link> Model for MemoryWorld<L> {
     ghost use Rattle.std.specs.Prelude.{Option};
     ghost use Rattle.std.specs.Option.{ForSome};
-    ghost use Rattle.outside.specs.MemoryLink.{MemoryLinkState, IsFreshMemoryLink};
+    ghost use Rattle.outside.specs.Told.{IsFresh};
 
-    ghost Value = { Option MemoryLinkState };
+    ghost Value = { Option L };
 
     ghost view = { λ it. it.console };
 
-    ghost invariant = { λ it. ForSome it.console IsFreshMemoryLink };
+    ghost invariant = { λ it. ForSome it.console (λ link.
+        IsFresh (L.taken link) (L.written link) (L.moments link) (L.read_faults link) (L.write_faults link)) };
 }
 
-impl MemoryWorld {
-    pub fn new(console: MemoryLink) -> MemoryWorld
-        requires { IsFreshMemoryLink console }
+impl<L: Link> MemoryWorld<L> {
+    pub fn new(console: L) -> MemoryWorld<L>
+        requires { IsFresh (L.taken console) (L.written console) (L.moments console)
+            (L.read_faults console) (L.write_faults console) }
         ensures { result ≡ Some console }
     {
         MemoryWorld {
@@ -34,18 +37,19 @@ impl MemoryWorld {
     }
 }
 
-impl World for MemoryWorld {
-    type Console = MemoryLink;
+impl<L: Link> World for MemoryWorld<L> {
+    type Console = L;
 
     ghost is_given = { is_none };
 
-    ghost input = { option_map (λ console. console.source.left) };
+    ghost input = { option_and_then L.left };
 
-    fn console(&mut self) -> MemoryLink
+    fn console(&mut self) -> L
         requires { IsSome self.old }
         ensures given { self.old ≡ Some result }
         ensures once { self.new ≡ None }
-        ensures fresh { IsFreshMemoryLink result }
+        ensures fresh { IsFresh (L.taken result) (L.written result) (L.moments result)
+            (L.read_faults result) (L.write_faults result) }
     {
         self.console.take().unwrap()
     }

@@ -6,11 +6,13 @@ pub loop-rest-init : goal.loop-rest-init
 loop-rest-init c = sequences-start _ _ _
 
 pub returns-in-Err-clause-value : goal.returns-in-Err-clause-value
-returns-in-Err-clause-value c = sequences-fail _ _ _ _ _ _ c.loop-rest.invariant _ c.loop-rest-test.true c.if-rest-eq1.true c.tail.ensures _ c.in-Err.ensures.value
+returns-in-Err-clause-value c =
+    sequences-fail _ _ _ _ _ _ c.loop-rest.invariant _ c.loop-rest-test.true c.if-rest-eq1.true c.tail.ensures _ c.in-Err.ensures.value
 
 pub loop-rest-preserved : goal.loop-rest-preserved
 loop-rest-preserved c =
-    sequences-more _ _ _ _ _ _ c.loop-rest.invariant _ _ _ _ _ _ c.loop-rest-test.true c.if-rest-eq1.true c.tail.ensures c.in-Ok.ensures.value c.in-Ok.ensures.shorter c.in_default.ensures.ok c.or-foreign.ensures
+    sequences-more _ _ _ _ _ _ c.loop-rest.invariant _ _ _ _ _ _ c.loop-rest-test.true c.if-rest-eq1.true c.tail.ensures
+    c.in-Ok.ensures.value c.in-Ok.ensures.shorter c.in_default.ensures.ok c.or-foreign.ensures
 
 pub returns-clause-value : goal.returns-clause-value
 returns-clause-value c =

@@ -7,5 +7,6 @@ take_turn_alone-requires-clause-sits g c =
       _,
       sits.origin,
       sits.some_parts,
-      ap (λ v. v.parts) c.seat.view_is ∙ (c.requires.alone ∙ (sym (ap (λ h. h.parts) c.requires.history) ∙ sym (ap (λ v. v.history.parts) c.seat.view_is))),
+      ap (λ v. v.parts) c.seat.view_is
+          ∙ (c.requires.alone ∙ (sym (ap (λ h. h.parts) c.requires.history) ∙ sym (ap (λ v. v.history.parts) c.seat.view_is))),
     )

@@ -1,7 +1,7 @@
 use Rattle.std.proofs.Common.{arith}
 use Rattle.std.proofs.lemmas.Grind.{common_steps}
 use Rattle.std.proofs.lemmas.List.{drop-drop}
-use Rattle.outside.proofs.Halves.{take-further}
+use Rattle.std_words.proofs.Parts.{take-further}
 use Rattle.outside.proofs.source.Source.read.Goals as goal
 
 pub returns : goal.returns

@@ -1,6 +1,0 @@
-use Rattle.std.proofs.Common.{◌≡◌, false}
-use Rattle.history_lock.specs.Seats.{moved}
-use Rattle.history_lock.proofs.tests.solo_gives_the_same_replies.Given as goal
-
-abbrev pub invariant-loop-op : goal.invariant-loop-op
-invariant-loop-op g l = l.seat ≡ moved l.initial.seat false l.seat.at

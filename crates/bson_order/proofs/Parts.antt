@@ -7,7 +7,8 @@ use Rattle.std.proofs.lemmas.List.{take_at, drop_at}
 use Rattle.std.proofs.lemmas.List.Elements.{All-head, All-tail}
 use Rattle.byteorder.specs.Endian.{little_number}
 use Rattle.byteorder.specs.Numbers.{little_number-reads_back, length-bytes_low_first}
-use Rattle.bson_order.specs.Key.{int64, counted, cstring}
+use Rattle.bson_spelling.specs.declared.form.Form.TheVariants.{Key}
+use Rattle.bson_spelling.specs.Spelling.{int64, counted, cstring}
 use Rattle.bson_order.specs.Plain.{HasNoNul}
 
 -- parts of one length
@@ -33,17 +34,17 @@ long_cut one other x y fits like whole =
     let both = number_cut (cast_unsigned w64 one) (cast_unsigned w64 other) x y below under whole in
     (sym (to_z-of_z w64 one fits) ∙ ap (λ (bits : ℕ). cast_signed w64 bits) both.0 ∙ to_z-of_z w64 other like, both.1)
 
-counted_cut : (one other : ℕ) (x y : List ℕ) → one < 2 ^ 63 → other < 2 ^ 63 → counted one ++ x ≡ counted other ++ y → (one ≡ other) × (x ≡ y)
+counted_cut : (one other : ℕ) (x y : List ℕ) → one < 2 ^ 63 → other < 2 ^ 63 → counted Key one ++ x ≡ counted Key other ++ y → (one ≡ other) × (x ≡ y)
 counted_cut one other x y small like whole =
     let both = number_cut (min one (2 ^ 63 - 1)) (min other (2 ^ 63 - 1)) x y (omega arith) (omega arith) whole in
     (omega (arith, both.0), both.1)
 
 -- a length, and what is so long
 pub held_cut : (one other : ℕ) (inside within x y : List ℕ) → one < 2 ^ 63 → other < 2 ^ 63 → (one ≡ other → length inside ≡ length within)
-    → (counted one ++ inside) ++ x ≡ (counted other ++ within) ++ y
+    → (counted Key one ++ inside) ++ x ≡ (counted Key other ++ within) ++ y
     → (inside ≡ within) × (x ≡ y)
 held_cut one other inside within x y small like long whole =
-    let both = counted_cut one other (inside ++ x) (within ++ y) small like (sym (append_assoc (counted one) inside x) ∙ whole ∙ append_assoc (counted other) within y) in
+    let both = counted_cut one other (inside ++ x) (within ++ y) small like (sym (append_assoc (counted Key one) inside x) ∙ whole ∙ append_assoc (counted Key other) within y) in
     cut inside within x y (long both.0) both.1
 
 -- names end at their first 00 byte

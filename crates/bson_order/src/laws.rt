@@ -2,7 +2,7 @@ ghost use Rattle.std.specs.Prelude.{◌≡◌, ◌↔◌, ◌<◌, ◌^◌, leng
 ghost use Rattle.std.specs.Cmp.{IsTotalOrder};
 ghost use Rattle.bson_values.specs.declared.value.Value.{Value, out-Value};
 ghost use Rattle.bson_order.specs.Choice.{ExactlyOne};
-ghost use Rattle.bson_order.specs.Key.{key};
+ghost use Rattle.bson_spelling.specs.Spelling.{key};
 ghost use Rattle.bson_order.specs.Order.{Below, Same, rank_of, layer_cmp, compared};
 ghost use Rattle.bson_order.specs.Plain.{IsPlain};
 

@@ -6,8 +6,9 @@ use Rattle.bson_wire.specs.declared.foreign.Foreign.{Foreign}
 use Rattle.bson_wire.specs.declared.refused.ReadRefused.{ReadRefused}
 use Rattle.bson_wire.specs.declared.refused.ReadRefused.TheVariants.{Malformed, NoMemory}
 use Rattle.bson_wire.specs.Grammar.{spells}
-use Rattle.bson_wire.specs.Reading.{Fails, document_at, first, with_first, fault_of, Tells}
-use Rattle.bson_wire.proofs.Steps.{same_Ok, bind_ok, bind_err}
+use Rattle.std_words.specs.Steps.{fault_of}
+use Rattle.bson_wire.specs.Reading.{Fails, document_at, first, with_first, Tells}
+use Rattle.std_words.proofs.Faults.{same_Ok, bind_ok, bind_err}
 use Rattle.bson_wire.proofs.Bytes.{IsBytes}
 use Rattle.bson_wire.proofs.Documents.{document_takes, document_again}
 use Rattle.bson_wire.proofs.Values.{Doc}

@@ -7,7 +7,8 @@ use Rattle.byteorder.specs.Endian.{little_number}
 use Rattle.bson_values.specs.declared.value.Value.{Value}
 use Rattle.bson_values.specs.declared.value.Value.TheVariants as value
 use Rattle.bson_wire.specs.declared.foreign.Foreign.{Foreign}
-use Rattle.bson_wire.specs.Reading.{◌>>=◌, number_at, long_at, length_at, part_at, ended_at, text_of, nul_at, name_at, text_at, string_at, binary_at, id_at, bool_at, regex_at, int_at, date_at, stamp_at, int64_at, scalar_at, is_foreign, past_at, past_text_at, past_scoped_at, foreign_at, value_at, element_at, elements_at, enclosed_at, document_at, array_at}
+use Rattle.std_words.specs.Steps.{◌>>=◌}
+use Rattle.bson_wire.specs.Reading.{number_at, long_at, length_at, part_at, ended_at, text_of, nul_at, name_at, text_at, string_at, binary_at, id_at, bool_at, regex_at, int_at, date_at, stamp_at, int64_at, scalar_at, is_foreign, past_at, past_text_at, past_scoped_at, foreign_at, value_at, element_at, elements_at, enclosed_at, document_at, array_at}
 use Rattle.bson_wire.proofs.Values.{Doc}
 
 -- the fault, where there is one, is at no later place

@@ -5,10 +5,11 @@ use Rattle.std.proofs.lemmas.List.{length-append, take_at, append_cancel_right}
 use Rattle.byteorder.specs.Numbers.{length-bytes_low_first}
 use Rattle.bson_values.specs.declared.value.Value.{Value}
 use Rattle.bson_wire.specs.declared.foreign.Foreign.{Foreign}
-use Rattle.bson_wire.specs.Spelling.{int32, cstring}
+use Rattle.bson_spelling.specs.Spelling.{int32, cstring}
 use Rattle.bson_wire.specs.Grammar.{Element, kept, foreigns, values, AreElements, Encloses, spells_within, spells}
-use Rattle.bson_wire.specs.Reading.{◌>>=◌, length_at, part_at, ended_at, all_at, enclosed_at, document_at, array_at}
-use Rattle.bson_wire.proofs.Steps.{same_Ok, bind_ok, at_found}
+use Rattle.std_words.specs.Steps.{◌>>=◌}
+use Rattle.bson_wire.specs.Reading.{length_at, part_at, ended_at, all_at, enclosed_at, document_at, array_at}
+use Rattle.std_words.proofs.Faults.{same_Ok, bind_ok, at_found}
 use Rattle.bson_wire.proofs.Bytes.{IsBytes, IsBytes-front, IsBytes-rest, Takes, regrouped}
 use Rattle.bson_wire.proofs.Numbers.{length_takes, length_again}
 use Rattle.bson_wire.proofs.Names.{part_takes, part_again, ended_takes, ended_again}

@@ -1,6 +1,7 @@
 -- Elements, read one by one.
 use Rattle.std.proofs.Common.{◌≡◌, ℕ, zero, suc, ◌+◌, ◌<◌, ◌≤◌, List, [], ◌∷◌, ◌++◌, length, drop, refl, sym, ap, arith, ◌∙◌, append_assoc, get_or, length-drop}
 use Rattle.std.specs.Prelude.{Option, None, Some, Result, Ok, Err}
+use Rattle.std.specs.Option.{option_or}
 use Rattle.std.proofs.lemmas.Grind.{flat_map-append}
 use Rattle.std.proofs.lemmas.List.{append-nil, map-append}
 use Rattle.bson_values.specs.declared.pairs.Pair.{Pair}
@@ -9,8 +10,9 @@ use Rattle.bson_wire.specs.declared.foreign.Foreign.{Foreign}
 use Rattle.bson_wire.specs.declared.refused.ReadRefused.{ReadRefused}
 use Rattle.bson_wire.specs.declared.refused.ReadRefused.TheVariants.{Malformed, NoMemory}
 use Rattle.bson_wire.specs.Grammar.{Element, pair_of, kept, foreigns, values}
-use Rattle.bson_wire.specs.Reading.{Fails, ◌>>=◌, element_at, elements_at, all_at, first, earlier, element_told}
-use Rattle.bson_wire.proofs.Steps.{same_Ok, bind_ok, bind_err}
+use Rattle.std_words.specs.Steps.{◌>>=◌}
+use Rattle.bson_wire.specs.Reading.{Fails, element_at, elements_at, all_at, first, Before, element_told}
+use Rattle.std_words.proofs.Faults.{same_Ok, bind_ok, bind_err}
 
 -- what was read before goes first
 abbrev pub behind : {A : Type 0} → List A → Result (List A) ℕ → Result (List A) ℕ
@@ -31,11 +33,16 @@ fails-on (Malformed place) part whole fails on = on place fails
 
 -- ---- what is kept, and what is foreign
 
-first-append : (before now : List Foreign) → first (before ++ now) ≡ earlier (first before) (first now)
+first-append : (before now : List Foreign) → first (before ++ now) ≡ option_or (first before) (first now)
 first-append [] now = refl
 first-append (it ∷ before) now = refl
 
-foreign-more : (before : List Element) (it : Element) → first (foreigns (before ++ it ∷ [])) ≡ earlier (first (foreigns before)) (first it.foreign)
+-- of two that stand before a place, the one that counts does
+pub before-or : (end : ℕ) (before now : Option Foreign) → Before end before → Before end now → Before end (option_or before now)
+before-or end None now is as_is = as_is
+before-or end (Some it) now is as_is = is
+
+foreign-more : (before : List Element) (it : Element) → first (foreigns (before ++ it ∷ [])) ≡ option_or (first (foreigns before)) (first it.foreign)
 foreign-more before it =
     ap first (flat_map-append (λ (it : Element). it.foreign) before (it ∷ []) ∙ ap (λ (now : List Foreign). foreigns before ++ now) (append-nil it.foreign))
     ∙ first-append (foreigns before) it.foreign
@@ -125,7 +132,7 @@ module _ (document : ℕ → List ℕ → Result (List (Pair Value) × List Fore
 
     pub goes-more : (bytes rest name after : List ℕ) (found : List A) (foreign inner : Option Foreign) (value : Option Value) → Goes bytes rest found foreign → 0 < length rest
         → element_told (element_at document array end (get_or rest 0 0) (drop 1 rest)) ≡ Ok (name, value, inner, after) → length after ≤ length (drop 1 rest)
-        → Goes bytes after (found ++ one name value) (earlier foreign inner)
+        → Goes bytes after (found ++ one name value) (option_or foreign inner)
     goes-more bytes rest name after found foreign inner value goes some is shorter =
         let read = element-told (get_or rest 0 0) (drop 1 rest) name after value inner is in
         let below : length after < length rest = omega (arith, length-drop 1 rest) in
@@ -140,7 +147,7 @@ module _ (document : ℕ → List ℕ → Result (List (Pair Value) × List Fore
               ∙ ap (λ (it : List ℕ). keep goes.before ++ one it value) (sym read.2)
               ∙ ap (λ (it : Option Value). keep goes.before ++ one read.0.name it) (sym read.3)
               ∙ sym (keeps goes.before read.0);
-          foreign_is = ap (λ (it : Option Foreign). earlier it inner) goes.foreign_is
-              ∙ ap (λ (it : Option Foreign). earlier (first (foreigns goes.before)) it) (sym read.4)
+          foreign_is = ap (λ (it : Option Foreign). option_or it inner) goes.foreign_is
+              ∙ ap (λ (it : Option Foreign). option_or (first (foreigns goes.before)) it) (sym read.4)
               ∙ sym (foreign-more goes.before read.0);
         }

@@ -5,8 +5,9 @@ use Rattle.bson_values.specs.declared.pairs.Pair.{Pair}
 use Rattle.bson_values.specs.declared.value.Value.{Value}
 use Rattle.bson_wire.specs.declared.foreign.Foreign.{Foreign}
 use Rattle.bson_wire.specs.Grammar.{Element, kept, foreigns, values}
-use Rattle.bson_wire.proofs.Steps.{same_Ok}
-use Rattle.bson_wire.specs.Reading.{◌>>=◌, length_at, part_at, ended_at, all_at, enclosed_at, document_at, array_at, first, with_first}
+use Rattle.std_words.proofs.Faults.{same_Ok}
+use Rattle.std_words.specs.Steps.{◌>>=◌}
+use Rattle.bson_wire.specs.Reading.{length_at, part_at, ended_at, all_at, enclosed_at, document_at, array_at, first, with_first}
 
 module _ (document : ℕ → List ℕ → Result (List (Pair Value) × List Foreign × List ℕ) ℕ) (array : ℕ → List ℕ → Result (List Value × List Foreign × List ℕ) ℕ) {A : Type 0} (keep : List Element → List A)
     (end stated : ℕ) (bytes behind part rest inside : List ℕ) (counted : length_at (end - length bytes) 5 bytes ≡ Ok (stated, behind))

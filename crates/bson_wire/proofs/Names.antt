@@ -6,10 +6,11 @@ use Rattle.std.proofs.lemmas.List.{length-append, length-take, append-nil, drop_
 use Rattle.std.proofs.lemmas.List.Elements.{All-get_or, All-from_get_or}
 use Rattle.std.proofs.lemmas.List.Quantifiers.{position-Some}
 use Rattle.std.proofs.lemmas.List.Sums.{position_or_len_is}
-use Rattle.bson_wire.specs.Spelling.{cstring}
+use Rattle.bson_spelling.specs.Spelling.{cstring}
 use Rattle.bson_wire.specs.Grammar.{IsName}
-use Rattle.bson_wire.specs.Reading.{◌>>=◌, text_of, nul_at, name_at, part_at, ended_at}
-use Rattle.bson_wire.proofs.Steps.{same_Ok, bind_ok, unless_ok, when_ok, at_found}
+use Rattle.std_words.specs.Steps.{◌>>=◌}
+use Rattle.bson_wire.specs.Reading.{text_of, nul_at, name_at, part_at, ended_at}
+use Rattle.std_words.proofs.Faults.{same_Ok, bind_ok, unless_ok, when_ok, at_found}
 use Rattle.bson_wire.proofs.Bytes.{nul_ends}
 use Rattle.bson_wire.proofs.Texts.{text_again, text_takes}
 

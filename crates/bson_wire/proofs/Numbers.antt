@@ -6,9 +6,9 @@ use Rattle.std.proofs.lemmas.List.{take-append-drop, length-append, length-take,
 use Rattle.std.proofs.lemmas.Nat.{le_bytes_4, le_bytes_8}
 use Rattle.byteorder.specs.Endian.{little_number}
 use Rattle.byteorder.specs.Numbers.{little_from-take, little_from-lt, little_number-reads_back, length-bytes_low_first}
-use Rattle.bson_wire.specs.Spelling.{int32, int64}
+use Rattle.bson_spelling.specs.Spelling.{int32, int64}
 use Rattle.bson_wire.specs.Reading.{number_at, long_at, length_at}
-use Rattle.bson_wire.proofs.Steps.{bind_ok, unless_ok, at_found}
+use Rattle.std_words.proofs.Faults.{bind_ok, unless_ok, at_found}
 use Rattle.bson_wire.proofs.Bytes.{IsBytes, IsBytes-front}
 
 or_cases-false : (one other : Bool) → (one || other) ≡ false → (one ≡ false) × (other ≡ false)

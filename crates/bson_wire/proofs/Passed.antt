@@ -2,10 +2,12 @@
 use Rattle.std.proofs.Common.{◌≡◌, ℕ, ◌-◌, ◌^◌, ◌<◌, ◌≤◌, true, false, eqb, List, [], ◌∷◌, ◌++◌, length, length-append, refl, sym, ap, subst, ◌∙◌, append_assoc, arith, inl, inr}
 use Rattle.std.specs.Prelude.{Result, Ok}
 use Rattle.byteorder.specs.Numbers.{length-bytes_low_first}
-use Rattle.bson_wire.specs.Spelling.{int32, string}
+use Rattle.bson_spelling.specs.declared.form.Form.TheVariants.{Bson}
+use Rattle.bson_spelling.specs.Spelling.{int32, string}
 use Rattle.bson_wire.specs.Grammar.{IsString, IsPointer, IsScoped, IsForeign}
-use Rattle.bson_wire.specs.Reading.{◌>>=◌, length_at, part_at, text_at, is_foreign, past_at, past_text_at, past_scoped_at, foreign_at}
-use Rattle.bson_wire.proofs.Steps.{same_Ok, bind_ok, at_found}
+use Rattle.std_words.specs.Steps.{◌>>=◌}
+use Rattle.bson_wire.specs.Reading.{length_at, part_at, text_at, is_foreign, past_at, past_text_at, past_scoped_at, foreign_at}
+use Rattle.std_words.proofs.Faults.{same_Ok, bind_ok, at_found}
 use Rattle.bson_wire.proofs.Bytes.{IsBytes, regrouped}
 use Rattle.bson_wire.proofs.Numbers.{length_takes, length_again}
 use Rattle.bson_wire.proofs.Names.{part_takes, part_again}
@@ -31,23 +33,23 @@ past_takes place len bytes rest is =
     let parted = part_takes place len bytes part.0 part.1 in
     at_found (Passes (HasLength len) bytes) part.0.1 rest part.2 (part.0.0, parted.0, parted.1)
 
-past_text_takes : (place : ℕ) (bytes rest : List ℕ) → IsBytes bytes → past_text_at place bytes ≡ Ok rest → (text : List ℕ) × (bytes ≡ string text ++ rest) × IsString (string text) text
+past_text_takes : (place : ℕ) (bytes rest : List ℕ) → IsBytes bytes → past_text_at place bytes ≡ Ok rest → (text : List ℕ) × (bytes ≡ string Bson text ++ rest) × IsString (string Bson text) text
 unfolding past_text_at
 past_text_takes place bytes rest fits is =
     let text = bind_ok (text_at place bytes) (λ text. Ok text.1) rest is in
     let taken = text_part_takes place bytes text.0 fits text.1 in
-    at_found (λ (it : List ℕ). (text : List ℕ) × (bytes ≡ string text ++ it) × IsString (string text) text) text.0.1 rest text.2 (text.0.0, taken.0, taken.1)
+    at_found (λ (it : List ℕ). (text : List ℕ) × (bytes ≡ string Bson text ++ it) × IsString (string Bson text) text) text.0.1 rest text.2 (text.0.0, taken.0, taken.1)
 
 text_takes : (place : ℕ) (bytes rest : List ℕ) → IsBytes bytes → past_text_at place bytes ≡ Ok rest → Passes IsText bytes rest
-text_takes place bytes rest fits is = let taken = past_text_takes place bytes rest fits is in (string taken.0, taken.1, (taken.0, taken.2))
+text_takes place bytes rest fits is = let taken = past_text_takes place bytes rest fits is in (string Bson taken.0, taken.1, (taken.0, taken.2))
 
 pointer_takes : (place : ℕ) (bytes rest : List ℕ) → IsBytes bytes → (past_text_at place bytes >>= λ rest. past_at place 12 rest) ≡ Ok rest → Passes IsPointer bytes rest
 pointer_takes place bytes rest fits is =
     let behind = bind_ok (past_text_at place bytes) (λ rest. past_at place 12 rest) rest is in
     let text = past_text_takes place bytes behind.0 fits behind.1 in
     let id = past_takes place 12 behind.0 rest behind.2 in
-    let pointer : IsPointer (string text.0 ++ id.0) = record { text = text.0; id = id.0; utf8 = text.2.utf8; small = text.2.small; twelve = id.2; whole = refl } in
-    (string text.0 ++ id.0, regrouped bytes (string text.0) behind.0 id.0 rest text.1 id.1, pointer)
+    let pointer : IsPointer (string Bson text.0 ++ id.0) = record { text = text.0; id = id.0; utf8 = text.2.utf8; small = text.2.small; twelve = id.2; whole = refl } in
+    (string Bson text.0 ++ id.0, regrouped bytes (string Bson text.0) behind.0 id.0 rest text.1 id.1, pointer)
 
 scoped_made : (stated : ℕ) (inside : List ℕ) → length inside ≡ stated - 4 → 14 ≤ stated → stated < 2 ^ 31 → IsScoped (int32 stated ++ inside)
 scoped_made stated inside counted least small =
@@ -94,8 +96,8 @@ past_text_again place content text rest is = rw (text_part_again place content t
 
 pointer_again : (place : ℕ) (content rest : List ℕ) → IsPointer content → (past_text_at place (content ++ rest) >>= λ rest. past_at place 12 rest) ≡ Ok rest
 pointer_again place content rest is =
-    let regroup : content ++ rest ≡ string is.text ++ (is.id ++ rest) = ap (λ (it : List ℕ). it ++ rest) is.whole ∙ append_assoc (string is.text) is.id rest in
-    let text = past_text_again place (string is.text) is.text (is.id ++ rest) (record { utf8 = is.utf8; small = is.small; whole = refl }) in
+    let regroup : content ++ rest ≡ string Bson is.text ++ (is.id ++ rest) = ap (λ (it : List ℕ). it ++ rest) is.whole ∙ append_assoc (string Bson is.text) is.id rest in
+    let text = past_text_again place (string Bson is.text) is.text (is.id ++ rest) (record { utf8 = is.utf8; small = is.small; whole = refl }) in
     ap (λ (it : List ℕ). past_text_at place it >>= λ rest. past_at place 12 rest) regroup ∙ ap (λ (it : Result (List ℕ) ℕ). it >>= λ rest. past_at place 12 rest) text ∙ past_again place 12 is.id rest is.twelve
 
 scoped_again : (place : ℕ) (content rest : List ℕ) → IsScoped content → past_scoped_at place (content ++ rest) ≡ Ok rest

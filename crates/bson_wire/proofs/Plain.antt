@@ -12,10 +12,12 @@ use Rattle.bson_values.specs.declared.value.Regex.{Regex}
 use Rattle.bson_values.specs.declared.value.Value.{Value}
 use Rattle.bson_values.specs.declared.value.Value.TheViews.{out-Value}
 use Rattle.bson_values.specs.declared.value.Value.TheVariants as value
-use Rattle.bson_wire.specs.Spelling.{int32, int64, cstring, string, bool, binary}
+use Rattle.bson_spelling.specs.declared.form.Form.TheVariants.{Bson}
+use Rattle.bson_spelling.specs.Spelling.{int32, int64, cstring, string, bool, binary}
 use Rattle.bson_wire.specs.Grammar.{IsString, IsInt, IsLong, IsValue}
-use Rattle.bson_wire.specs.Reading.{◌>>=◌, number_at, long_at, length_at, part_at, ended_at, text_of, name_at, text_at, string_at, binary_at, id_at, bool_at, regex_at, int_at, date_at, stamp_at, int64_at, scalar_at}
-use Rattle.bson_wire.proofs.Steps.{bind_ok, at_found}
+use Rattle.std_words.specs.Steps.{◌>>=◌}
+use Rattle.bson_wire.specs.Reading.{number_at, long_at, length_at, part_at, ended_at, text_of, name_at, text_at, string_at, binary_at, id_at, bool_at, regex_at, int_at, date_at, stamp_at, int64_at, scalar_at}
+use Rattle.std_words.proofs.Faults.{bind_ok, at_found}
 use Rattle.bson_wire.proofs.Bytes.{IsBytes, Takes, regrouped}
 use Rattle.bson_wire.proofs.Texts.{text_takes}
 use Rattle.bson_wire.proofs.Numbers.{number_takes, long_takes, length_takes}
@@ -53,19 +55,19 @@ by_type Is this code one other found is here there =
 
 -- a stated length, that many bytes with their 00, and the rest are a string and the rest
 string_made : (bytes : List ℕ) (stated : ℕ) (after part content rest text : List ℕ) → bytes ≡ int32 stated ++ after → after ≡ part ++ rest → part ≡ cstring content → length part ≡ stated → content ≡ text
-    → bytes ≡ string text ++ rest
+    → bytes ≡ string Bson text ++ rest
 string_made bytes stated after part content rest text front parted ended counted same =
     let len : length content + 1 ≡ stated = omega (arith, counted, ap length ended, length-append content (0 ∷ [])) in
-    let spelling : int32 stated ++ part ≡ string text = ap (λ (it : List ℕ). int32 stated ++ it) ended ∙ ap (λ (n : ℕ). int32 n ++ cstring content) (sym len) ∙ ap string same in
+    let spelling : int32 stated ++ part ≡ string Bson text = ap (λ (it : List ℕ). int32 stated ++ it) ended ∙ ap (λ (n : ℕ). int32 n ++ cstring content) (sym len) ∙ ap (string Bson) same in
     regrouped bytes (int32 stated) after part rest front parted ∙ ap (λ (it : List ℕ). it ++ rest) spelling
 
 text_small : (stated : ℕ) (part content text : List ℕ) → part ≡ cstring content → length part ≡ stated → stated < 2 ^ 31 → content ≡ text → length text + 1 < 2 ^ 31
 text_small stated part content text ended counted small same = omega (arith, small, counted, ap length same, ap length ended, length-append content (0 ∷ []))
 
-is_string : (text : List ℕ) → IsUtf8 text → length text + 1 < 2 ^ 31 → IsString (string text) text
+is_string : (text : List ℕ) → IsUtf8 text → length text + 1 < 2 ^ 31 → IsString (string Bson text) text
 is_string text utf8 small = record { utf8 = utf8; small = small; whole = refl }
 
-pub text_part_takes : (place : ℕ) (bytes : List ℕ) (found : List ℕ × List ℕ) → IsBytes bytes → text_at place bytes ≡ Ok found → (bytes ≡ string found.0 ++ found.1) × IsString (string found.0) found.0
+pub text_part_takes : (place : ℕ) (bytes : List ℕ) (found : List ℕ × List ℕ) → IsBytes bytes → text_at place bytes ≡ Ok found → (bytes ≡ string Bson found.0 ++ found.1) × IsString (string Bson found.0) found.0
 unfolding text_at
 text_part_takes place bytes found fits is =
     let number = bind_ok (length_at place 1 bytes) (λ n. part_at place n.0 n.1 >>= λ part. ended_at place part.0 >>= λ content. text_of place content >>= λ text. Ok (text, part.1)) found is in
@@ -78,7 +80,7 @@ text_part_takes place bytes found fits is =
     let utf8 = text_takes place content.0 text.0 text.1 in
     let whole = string_made bytes number.0.0 number.0.1 part.0.0 content.0 part.0.1 text.0 stated.0 parted.0 ended.0 parted.1 utf8.0 in
     let small = text_small number.0.0 part.0.0 content.0 text.0 ended.0 parted.1 stated.2 utf8.0 in
-    at_found (λ it. (bytes ≡ string it.0 ++ it.1) × IsString (string it.0) it.0) (text.0, part.0.1) found text.2 (whole, is_string text.0 utf8.1 small)
+    at_found (λ it. (bytes ≡ string Bson it.0 ++ it.1) × IsString (string Bson it.0) it.0) (text.0, part.0.1) found text.2 (whole, is_string text.0 utf8.1 small)
 
 module _ (IsDocument : List ℕ → List (Pair Value) → Type 0) where
   -- the value behind a type byte
@@ -93,7 +95,7 @@ module _ (IsDocument : List ℕ → List (Pair Value) → Type 0) where
   string_takes place bytes found fits is =
       let text = bind_ok (text_at place bytes) (λ text. Ok (value.Str text.0, text.1)) found is in
       let taken = text_part_takes place bytes text.0 fits text.1 in
-      at_found (Held 2 bytes) (value.Str text.0.0, text.0.1) found text.2 (string text.0.0, taken.0, (refl, taken.1))
+      at_found (Held 2 bytes) (value.Str text.0.0, text.0.1) found text.2 (string Bson text.0.0, taken.0, (refl, taken.1))
 
   -- ---- binaries
 
@@ -106,10 +108,10 @@ module _ (IsDocument : List ℕ → List (Pair Value) → Type 0) where
       let parted = part_takes place (number.0.0 + 1) number.0.1 part.0 part.1 in
       let len = length-after part.0.0 number.0.0 parted.1 in
       let it : Binary = record { subtype = slice_index part.0.0 0; bytes = drop 1 part.0.0 } in
-      let spelling : int32 number.0.0 ++ part.0.0 ≡ binary it.subtype it.bytes =
+      let spelling : int32 number.0.0 ++ part.0.0 ≡ binary Bson it.subtype it.bytes =
       ap (λ (n : ℕ). int32 n ++ part.0.0) (sym len) ∙ ap (λ (all : List ℕ). int32 (length (drop 1 part.0.0)) ++ all) (head_first part.0.0 (omega arith)) in
       let whole = regrouped bytes (int32 number.0.0) number.0.1 part.0.0 part.0.1 stated.0 parted.0 ∙ ap (λ (all : List ℕ). all ++ part.0.1) spelling in
-      at_found (Held 5 bytes) (value.Bin it, part.0.1) found part.2 (binary it.subtype it.bytes, whole, (refl, record { small = omega arith; whole = refl }))
+      at_found (Held 5 bytes) (value.Bin it, part.0.1) found part.2 (binary Bson it.subtype it.bytes, whole, (refl, record { small = omega arith; whole = refl }))
 
   -- ---- the others
 

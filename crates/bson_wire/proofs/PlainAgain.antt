@@ -6,7 +6,7 @@ use Rattle.std.proofs.lemmas.Int.{ints, to_z-of_z}
 use Rattle.bson_values.specs.declared.value.Binary.{Binary}
 use Rattle.bson_values.specs.declared.value.Regex.{Regex}
 use Rattle.bson_values.specs.declared.value.Value.TheVariants as value
-use Rattle.bson_wire.specs.Spelling.{int32, cstring, bool}
+use Rattle.bson_spelling.specs.Spelling.{int32, cstring, bool}
 use Rattle.bson_wire.specs.Grammar.{IsString, IsBinary, IsRegex, IsInt, IsLong, IsStamp}
 use Rattle.bson_wire.specs.Reading.{number_at, long_at, text_at, string_at, binary_at, id_at, bool_at, regex_at, int_at, date_at, stamp_at, int64_at}
 use Rattle.bson_wire.proofs.Texts.{text_again}

@@ -4,7 +4,7 @@ use Rattle.std.specs.Prelude.{Result, Ok, Err}
 use Rattle.std.specs.Str.{IsUtf8, is_utf8}
 use Rattle.std.proofs.lemmas.Str.{IsUtf8-from_is_utf8, is_utf8-from_IsUtf8}
 use Rattle.bson_wire.specs.Reading.{text_of}
-use Rattle.bson_wire.proofs.Steps.{when_ok, same_Ok}
+use Rattle.std_words.proofs.Faults.{when_ok, same_Ok}
 
 -- a text is read as itself
 pub text_again : (place : ℕ) (text : List ℕ) → IsUtf8 text → text_of place text ≡ Ok text

@@ -9,10 +9,11 @@ use Rattle.bson_values.specs.declared.value.Value.TheViews.{out-Value, roll-Valu
 use Rattle.bson_values.specs.declared.value.Value.TheOpen.{Value-F}
 use Rattle.bson_values.specs.declared.value.Value.TheVariants as value
 use Rattle.bson_wire.specs.declared.foreign.Foreign.{Foreign}
-use Rattle.bson_wire.specs.Spelling.{cstring}
+use Rattle.bson_spelling.specs.Spelling.{cstring}
 use Rattle.bson_wire.specs.Grammar.{IsName, Element, MayHold, IsArray, IsValue, Yields, IsElement, AreElements}
-use Rattle.bson_wire.specs.Reading.{◌>>=◌, name_at, scalar_at, is_foreign, foreign_at, value_at, element_at, elements_at}
-use Rattle.bson_wire.proofs.Steps.{same_Ok, bind_ok, at_found}
+use Rattle.std_words.specs.Steps.{◌>>=◌}
+use Rattle.bson_wire.specs.Reading.{name_at, scalar_at, is_foreign, foreign_at, value_at, element_at, elements_at}
+use Rattle.std_words.proofs.Faults.{same_Ok, bind_ok, at_found}
 use Rattle.bson_wire.proofs.Bytes.{IsBytes, IsBytes-rest, Takes, regrouped}
 use Rattle.bson_wire.proofs.Names.{name_takes, name_again}
 use Rattle.bson_wire.proofs.Plain.{IsHeld, chosen, by_type, scalar_takes}

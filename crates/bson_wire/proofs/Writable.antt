@@ -6,7 +6,7 @@ use Rattle.bson_values.specs.declared.value.Value.{Value}
 use Rattle.bson_values.specs.declared.value.Value.TheViews.{out-Value}
 use Rattle.bson_values.specs.declared.value.Value.TheOpen.{Value-F}
 use Rattle.bson_wire.specs.declared.foreign.Foreign.{Foreign}
-use Rattle.bson_wire.specs.Spelling.{spell}
+use Rattle.bson_spelling.specs.Spelling.{spell}
 use Rattle.bson_wire.specs.Grammar.{Element, pair_of, kept, values, IsName, IsValue, Yields, AreElements, spells_within, spells}
 use Rattle.bson_wire.specs.Spellable.{HasSpelling, IsSpellable}
 use Rattle.bson_wire.proofs.Values.{Doc, IsDocAt, IsArrayAt}

@@ -9,7 +9,8 @@ use Rattle.bson_values.specs.declared.value.Regex.{Regex}
 use Rattle.bson_values.specs.declared.value.Value.{Value, out-Value}
 use Rattle.bson_values.specs.declared.value.Value.TheOpen.{Value-F}
 use Rattle.bson_wire.specs.declared.foreign.Foreign.{Foreign}
-use Rattle.bson_wire.specs.Spelling.{int32, int64, cstring, string, bool, binary}
+use Rattle.bson_spelling.specs.declared.form.Form.TheVariants.{Bson}
+use Rattle.bson_spelling.specs.Spelling.{int32, int64, cstring, string, bool, binary}
 
 -- UTF-8 with no U+0000
 pub record IsName (name : List ℕ) : Type 0 where
@@ -20,12 +21,12 @@ pub record IsName (name : List ℕ) : Type 0 where
 pub record IsString (bytes text : List ℕ) : Type 0 where
   pub utf8 : IsUtf8 text
   pub small : length text + 1 < 2 ^ 31
-  pub whole : bytes ≡ string text
+  pub whole : bytes ≡ string Bson text
 
 -- an int32 that is not negative, a byte, and as many bytes as the int32 says
 pub record IsBinary (bytes : List ℕ) (it : Binary) : Type 0 where
   pub small : length it.bytes < 2 ^ 31
-  pub whole : bytes ≡ binary it.subtype it.bytes
+  pub whole : bytes ≡ binary Bson it.subtype it.bytes
 
 -- two names, each ended by a 00 byte
 pub record IsRegex (bytes : List ℕ) (regex : Regex) : Type 0 where
@@ -55,7 +56,7 @@ pub record IsPointer (bytes : List ℕ) : Type 0 where
   pub utf8 : IsUtf8 text
   pub small : length text + 1 < 2 ^ 31
   pub twelve : length id ≡ 12
-  pub whole : bytes ≡ string text ++ id
+  pub whole : bytes ≡ string Bson text ++ id
 
 -- an int32 that equals the length of all the bytes, which are at least 14
 pub record IsScoped (bytes : List ℕ) : Type 0 where

@@ -5,6 +5,7 @@ use Rattle.std.specs.Prelude.{ℕ, zero, suc, ◌≡◌, ◌<◌, ◌+◌, ◌-�
 use Rattle.std.specs.Int.{w32, w64, cast_signed}
 use Rattle.std.specs.List.{position}
 use Rattle.std.specs.Str.{is_utf8}
+use Rattle.std_words.specs.Steps.{◌>>=◌, fault_of}
 use Rattle.byteorder.specs.Endian.{little_number}
 use Rattle.bson_values.specs.declared.pairs.Pair.{Pair}
 use Rattle.bson_values.specs.declared.value.Value.{Value}
@@ -23,12 +24,6 @@ Fails (Malformed place) found = found ≡ Err place
 abbrev pub Gives : {X Y : Type 0} → (X → Y) → Result X ReadRefused → Result Y ℕ → Type 0
 Gives view (Ok value) found = found ≡ Ok (view value)
 Gives view (Err refused) found = Fails refused found
-
--- a step that may find a fault, and the next one on what it found
-infixl 10 ◌>>=◌
-abbrev pub ◌>>=◌ : {A B E : Type 0} → Result A E → (A → Result B E) → Result B E
-(Err fault) >>= next = Err fault
-(Ok found) >>= next = next found
 
 -- four bytes as a number, and the bytes after them
 unfoldable pub number_at : ℕ → List ℕ → Result (ℕ × List ℕ) ℕ
@@ -218,11 +213,6 @@ abbrev pub first : List Foreign → Option Foreign
 first [] = None
 first (it ∷ more) = Some it
 
--- the one found before, or the one found now
-abbrev pub earlier : Option Foreign → Option Foreign → Option Foreign
-earlier None now = now
-earlier (Some it) now = Some it
-
 -- if there is one, it stands before that place
 abbrev pub Before : ℕ → Option Foreign → Type 0
 Before end None = Unit {0}
@@ -243,11 +233,6 @@ pairs_told found = found >>= λ it. Ok (kept it, first (foreigns it))
 -- the same of the elements of an array
 abbrev pub items_told : Result (List Element) ℕ → Result (List Value × Option Foreign) ℕ
 items_told found = found >>= λ it. Ok (values (kept it), first (foreigns it))
-
--- the place of a fault, where there is one
-abbrev pub fault_of : {A : Type 0} → Result A ℕ → Option ℕ
-fault_of (Ok found) = None
-fault_of (Err place) = Some place
 
 -- the place of the first fault of what should be a document at the front; none where one is there
 abbrev pub fault : List ℕ → Option ℕ

@@ -5,7 +5,7 @@ use Rattle.std.specs.Str.{IsUtf8}
 use Rattle.bson_values.specs.declared.pairs.Pair.{Pair}
 use Rattle.bson_values.specs.declared.value.Value.{Value, out-Value}
 use Rattle.bson_values.specs.declared.value.Value.TheOpen.{Value-F}
-use Rattle.bson_wire.specs.Spelling.{spell}
+use Rattle.bson_spelling.specs.Spelling.{spell}
 use Rattle.bson_wire.specs.Grammar.{IsName}
 
 -- texts that are UTF-8, names and regex texts without U+0000, numbers that fit, at most so many levels of containers

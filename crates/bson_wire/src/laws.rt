@@ -5,7 +5,7 @@ ghost use Rattle.bson_values.specs.declared.value.Value.{Value};
 ghost use Rattle.bson_wire.specs.declared.foreign.Foreign.{Foreign};
 ghost use Rattle.bson_wire.specs.Grammar.{spells};
 ghost use Rattle.bson_wire.specs.Spellable.{IsSpellable};
-ghost use Rattle.bson_wire.specs.Spelling.{spell};
+ghost use Rattle.bson_spelling.specs.Spelling.{spell};
 
 /// Where two spellings stand at the front of the same bytes, they are one, of one document with one list of foreign elements.
 pub fn no_spelling_begins_another()

@@ -6,7 +6,8 @@ use Rattle.byteorder.specs.Endian.{little_number}
 use Rattle.bson_values.specs.declared.pairs.Pair.{Pair}
 use Rattle.bson_values.specs.declared.value.Value.{Value}
 use Rattle.bson_wire.specs.declared.foreign.Foreign.{Foreign}
-use Rattle.bson_wire.specs.Reading.{◌>>=◌, document_at, name_at, first}
+use Rattle.std_words.specs.Steps.{◌>>=◌}
+use Rattle.bson_wire.specs.Reading.{document_at, name_at, first}
 use Rattle.op_msg.specs.Stream.{moved}
 use Rattle.op_msg.specs.declared.message.Message.{Message}
 use Rattle.op_msg.specs.declared.message.Sequence.{Sequence}

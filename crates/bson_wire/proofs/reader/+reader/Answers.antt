@@ -1,6 +1,6 @@
 use Rattle.std.proofs.Common.{arith, ◌∙◌, ◌-◌, ap}
 use Rattle.bson_wire.specs.Reading.{with_first}
-use Rattle.bson_wire.proofs.Elements.{fails-on, goes-start, goes-end, goes-bad, goes-more}
+use Rattle.bson_wire.proofs.Elements.{fails-on, before-or, goes-start, goes-end, goes-bad, goes-more}
 use Rattle.bson_wire.proofs.Enclosed.{enclosed-all, enclosed-bad, document-inner, array-inner}
 use Rattle.bson_wire.proofs.reader.+reader.Goals as goal
 
@@ -17,8 +17,8 @@ elements-returns-in-Err-clause-value t c = goes-bad _ _ _ _ _ _ _ _ _ _ c.loop-r
 
 pub elements-loop-rest-preserved : goal.elements-loop-rest-preserved
 elements-loop-rest-preserved t c = (
-  rw (c.in_ok-push.ensures.ok, c.earlier-foreign.ensures.value) (goes-more _ _ _ _ _ _ _ _ _ _ _ _ _ _ c.loop-rest.invariant.0 c.loop-rest-test.true (rw c.tail.ensures at c.in-Ok.ensures.value) (rw c.tail.ensures at c.in-Ok.ensures.shorter)),
-  c.earlier-foreign.ensures.near _ c.loop-rest.invariant.1 c.in-Ok.ensures.near,
+  rw (c.in_ok-push.ensures.ok, c.or-foreign.ensures) (goes-more _ _ _ _ _ _ _ _ _ _ _ _ _ _ c.loop-rest.invariant.0 c.loop-rest-test.true (rw c.tail.ensures at c.in-Ok.ensures.value) (rw c.tail.ensures at c.in-Ok.ensures.shorter)),
+  rw c.or-foreign.ensures (before-or _ _ _ c.loop-rest.invariant.1 c.in-Ok.ensures.near),
 )
 
 -- ---- items
@@ -34,8 +34,8 @@ items-returns-in-Err-clause-value t c = goes-bad _ _ _ _ _ _ _ _ _ _ c.loop-rest
 
 pub items-loop-rest-preserved : goal.items-loop-rest-preserved
 items-loop-rest-preserved t c = (
-  rw (c.in_ok-push_item.ensures.ok, c.earlier-foreign.ensures.value) (goes-more _ _ _ _ _ _ _ _ _ _ _ _ _ _ c.loop-rest.invariant.0 c.loop-rest-test.true (rw c.tail.ensures at c.in-Ok.ensures.value) (rw c.tail.ensures at c.in-Ok.ensures.shorter)),
-  c.earlier-foreign.ensures.near _ c.loop-rest.invariant.1 c.in-Ok.ensures.near,
+  rw (c.in_ok-push_item.ensures.ok, c.or-foreign.ensures) (goes-more _ _ _ _ _ _ _ _ _ _ _ _ _ _ c.loop-rest.invariant.0 c.loop-rest-test.true (rw c.tail.ensures at c.in-Ok.ensures.value) (rw c.tail.ensures at c.in-Ok.ensures.shorter)),
+  rw c.or-foreign.ensures (before-or _ _ _ c.loop-rest.invariant.1 c.in-Ok.ensures.near),
 )
 
 -- ---- documents

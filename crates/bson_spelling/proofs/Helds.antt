@@ -10,7 +10,8 @@ use Rattle.bson_values.specs.declared.value.Value.TheVariants as value
 use Rattle.bson_values.specs.declared.value.Value.TheOpen.{Value-F}
 use Rattle.bson_values.specs.declared.value.Value.TheFolds.{fold_out-Value}
 use Rattle.bson_spelling.specs.declared.form.Form.{Form}
-use Rattle.bson_spelling.specs.Spelling.{int64, long, int, cstring, string, binary, bool, element_of, items_from, held_in, held, enclosed, element}
+use Rattle.bson_spelling.specs.Spelling.{int64, long, int, cstring, string, binary, bool, element_of, items_from, held_in, held, enclosed}
+use Rattle.bson_spelling.specs.Spelling.{element}
 
 -- what is held, where the values in it are values
 abbrev pub held_layer : Form → Value-F Value → ℕ × List ℕ
@@ -40,18 +41,8 @@ abbrev pub joined : Pair Spelled → List ℕ
 joined pair = element_of pair.name pair.value
 
 layer_is : (form : Form) (layer : Value-F Value) → held_in form (map-Value Value Spelled (held form) layer) ≡ held_layer form layer
-layer_is form (Value-F.Str text) = refl
 layer_is form (Value-F.Doc pairs) = ap (λ (inside : List ℕ). (3, enclosed form inside)) (flat_map-map joined (along form) pairs)
-layer_is form (Value-F.Arr items) = refl
-layer_is form (Value-F.Bin it) = refl
-layer_is form (Value-F.Id id) = refl
-layer_is form (Value-F.Bool truth) = refl
-layer_is form (Value-F.Date moment) = refl
-layer_is form Value-F.Null = refl
-layer_is form (Value-F.Regex regex) = refl
-layer_is form (Value-F.Int number) = refl
-layer_is form (Value-F.Stamp stamp) = refl
-layer_is form (Value-F.Long number) = refl
+layer_is form layer = refl
 
 pub held_is : (form : Form) (it : Value) → held form it ≡ held_layer form (out-Value it)
 held_is form it = fold_out-Value Spelled (held_in form) it ∙ layer_is form (out-Value it)

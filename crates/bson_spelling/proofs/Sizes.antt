@@ -1,11 +1,11 @@
 -- How long a spelling is.
-use Rattle.std.proofs.Common.{◌≡◌, ℕ, zero, suc, ◌+◌, ◌-◌, ◌^◌, ◌<◌, ◌≤◌, min, List, [], ◌∷◌, ◌++◌, length, map, take, drop, get_or, refl, ap, sym, ◌∙◌, arith}
+use Rattle.std.proofs.Common.{◌≡◌, ℕ, ◌+◌, ◌-◌, ◌^◌, ◌<◌, ◌≤◌, min, List, [], ◌∷◌, ◌++◌, length, map, take, drop, get_or}
+use Rattle.std.proofs.Common.{ap, sym, ◌∙◌, arith}
 use Rattle.std.specs.Fmt.{decimal}
 use Rattle.std.specs.List.{flat_map}
 use Rattle.byteorder.specs.Numbers.{length-bytes_low_first}
 use Rattle.std.proofs.lemmas.List.{length-append, drop_more}
 use Rattle.std.proofs.lemmas.List.Folds.{length-flat_map-take}
-use Rattle.std.proofs.lemmas.List.Concat.{flat_map-cons}
 use Rattle.bson_values.specs.declared.pairs.Pair.{Pair}
 use Rattle.bson_values.specs.declared.value.Value.{Value}
 use Rattle.bson_spelling.specs.declared.form.Form.{Form}
@@ -48,7 +48,13 @@ pub element-fits : (form : Form) (pairs : List (Pair Value)) (place spare room :
     → pair ≡ get_or pairs place pair → place < length pairs → length (flat_map (element form) pairs) ≤ room
     → spare + length (flat_map (element form) (take place pairs)) ≡ room → length (element form pair) ≤ spare
 element-fits form pairs place spare room pair is within all written =
-    omega (arith, all, written, length-flat_map-take (element form) pairs place pair within, ap (λ (p : Pair Value). length (element form p)) is)
+    omega (
+      arith,
+      all,
+      written,
+      length-flat_map-take (element form) pairs place pair within,
+      ap (λ (p : Pair Value). length (element form p)) is,
+    )
 
 -- the items from a place on are the one that stands there and the rest
 pub items-more : (form : Form) (items : List Value) (first place : ℕ) (item : Value) → item ≡ get_or items place item → place < length items
@@ -56,7 +62,8 @@ pub items-more : (form : Form) (items : List Value) (first place : ℕ) (item : 
     ≡ element_of (decimal first) (held form item) ++ items_from (first + 1) (map (held form) (drop (place + 1) items))
 items-more form items first place item is within =
     ap (λ (list : List Value). items_from first (map (held form) list)) (drop_more items place item within)
-    ∙ ap (λ (it : Value). element_of (decimal first) (held form it) ++ items_from (first + 1) (map (held form) (drop (place + 1) items))) (sym is)
+    ∙ ap (λ (it : Value). element_of (decimal first) (held form it) ++ items_from (first + 1) (map (held form) (drop (place + 1) items)))
+    (sym is)
 
 -- so does an item
 pub item-fits : (form : Form) (items : List Value) (first place spare room : ℕ) (item : Value) → item ≡ get_or items place item

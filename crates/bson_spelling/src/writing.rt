@@ -1,7 +1,8 @@
 ghost use Rattle.std.specs.Prelude.{◌≡◌, ◌++◌, ◌∷◌, ◌+◌, ◌-◌, ◌≤◌, [], length, map, take, drop};
 ghost use Rattle.std.specs.Fmt.{decimal};
 ghost use Rattle.std.specs.List.{flat_map};
-ghost use Rattle.bson_spelling.specs.Spelling.{int, width, counted, cstring, string, binary, held, element_of, items_from, element, enclosed};
+ghost use Rattle.bson_spelling.specs.Spelling.{int, width, counted, cstring, string, binary, held, element_of, items_from, element};
+ghost use Rattle.bson_spelling.specs.Spelling.{enclosed};
 
 use crate::form::Form;
 use bson_values::{Document, List, Room, Value};

@@ -25,5 +25,5 @@ put_items-put_item-requires t c =
     let items = c.as_slice-item-items.result.now in (
       search (rules, the_lemmas),
       item-fits _ items c.loop-item.place c.loop-item.item-index _ _ c.item-item.result c.item-item.is c.loop-item-test.true
-      (rw c.as_slice-item-items.ensures c.requires.room) c.loop-item.invariant.2,
+          (rw c.as_slice-item-items.ensures c.requires.room) c.loop-item.invariant.2,
     )

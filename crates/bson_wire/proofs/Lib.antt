@@ -1,4 +1,3 @@
-pub mod Bytes
 pub mod Texts
 pub mod Elements
 pub mod Enclosed

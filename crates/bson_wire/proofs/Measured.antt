@@ -31,7 +31,8 @@ pair_of pair = record { name = pair.name; value = pair.value.0 }
 abbrev sized : Pair Value → Pair ℕ
 sized pair = record { name = pair.name; value = value_size pair.value }
 
-fields_measured : (pairs : List (Pair Known)) → fields_size (map sized (map pair_of pairs)) ≡ length (flat_map joined (map (along Bson) (map pair_of pairs)))
+fields_measured : (pairs : List (Pair Known)) → fields_size (map sized (map pair_of pairs))
+    ≡ length (flat_map joined (map (along Bson) (map pair_of pairs)))
 fields_measured [] = refl
 fields_measured (pair ∷ pairs) =
     let first = along Bson (pair_of pair) in
@@ -45,11 +46,18 @@ fields_measured (pair ∷ pairs) =
       length-element_of pair.name (held Bson pair.value.0),
     )
 
-items_measured : (place : ℕ) (items : List Known) → items_size place (map value_size (map value_of items)) ≡ length (items_from place (map (held Bson) (map value_of items)))
+items_measured : (place : ℕ) (items : List Known) → items_size place (map value_size (map value_of items))
+    ≡ length (items_from place (map (held Bson) (map value_of items)))
 items_measured place [] = refl
 items_measured place (item ∷ items) =
     let rest = items_from (place + 1) (map (held Bson) (map value_of items)) in
-    omega (arith, item.1, items_measured (place + 1) items, length-append (element_of (decimal place) (held Bson item.0)) rest, length-element_of (decimal place) (held Bson item.0))
+    omega (
+      arith,
+      item.1,
+      items_measured (place + 1) items,
+      length-append (element_of (decimal place) (held Bson item.0)) rest,
+      length-element_of (decimal place) (held Bson item.0),
+    )
 
 -- ---- layer by layer
 
@@ -59,21 +67,18 @@ Agree layer = size_in (map-Value Value ℕ value_size layer) ≡ length (held_in
 
 layer_measured : (layer : Value-F Known) → Agree (map-Value Known Value value_of layer)
 layer_measured (Value-F.Str text) = sym (length-string Bson text)
-layer_measured (Value-F.Doc pairs) = ap (λ (n : ℕ). n + 5) (fields_measured pairs) ∙ sym (length-enclosed Bson (flat_map joined (map (along Bson) (map pair_of pairs))))
-layer_measured (Value-F.Arr items) = ap (λ (n : ℕ). n + 5) (items_measured 0 items) ∙ sym (length-enclosed Bson (items_from 0 (map (held Bson) (map value_of items))))
+layer_measured (Value-F.Doc pairs) = ap (λ (n : ℕ). n + 5) (fields_measured pairs)
+    ∙ sym (length-enclosed Bson (flat_map joined (map (along Bson) (map pair_of pairs))))
+layer_measured (Value-F.Arr items) = ap (λ (n : ℕ). n + 5) (items_measured 0 items)
+    ∙ sym (length-enclosed Bson (items_from 0 (map (held Bson) (map value_of items))))
 layer_measured (Value-F.Bin it) = sym (length-binary Bson it.subtype it.bytes)
-layer_measured (Value-F.Id id) = refl
-layer_measured (Value-F.Bool truth) = refl
-layer_measured (Value-F.Date moment) = refl
-layer_measured Value-F.Null = refl
 layer_measured (Value-F.Regex regex) = sym (length-regex regex.pattern regex.options)
-layer_measured (Value-F.Int number) = refl
-layer_measured (Value-F.Stamp stamp) = refl
-layer_measured (Value-F.Long number) = refl
+layer_measured layer = refl
 
 pub value_measured : (it : Value) → IsMeasured it
 value_measured = ind-Value IsMeasured (λ layer known is.
-    fold-roll-Value ℕ size_in layer ∙ subst Agree is (layer_measured known) ∙ sym (ap (λ (h : Spelled). length h.1) (fold-roll-Value Spelled (held_in Bson) layer)))
+    fold-roll-Value ℕ size_in layer ∙ subst Agree is (layer_measured known)
+    ∙ sym (ap (λ (h : Spelled). length h.1) (fold-roll-Value Spelled (held_in Bson) layer)))
 
 -- of a document its spelling
 pub measured : (doc : List (Pair Value)) → size doc ≡ length (spell doc)
@@ -81,4 +86,5 @@ measured doc = value_measured (value.Doc doc) ∙ ap length (doc-held Bson (valu
 
 -- of an array its elements, named by their places
 pub array_measured : (items : List Value) → value_size (value.Arr items) ≡ length (enclosed Bson (items_from 0 (map (held Bson) items)))
-array_measured items = value_measured (value.Arr items) ∙ ap (λ (h : Spelled). length h.1) (held_by Bson (value.Arr items) (Value-F.Arr items) (value.outs-Arr items))
+array_measured items = value_measured (value.Arr items) ∙ ap (λ (h : Spelled). length h.1)
+    (held_by Bson (value.Arr items) (Value-F.Arr items) (value.outs-Arr items))

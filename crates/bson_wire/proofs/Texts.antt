@@ -20,7 +20,8 @@ text_takes place bytes text is =
     (same, subst IsUtf8 same (IsUtf8-from_is_utf8 bytes test.0))
 
 -- a test that fails is a fault
-unmet : {A : Type 0} (test : Bool) (place : ℕ) (found : A) → (test ≡ true → ⊥) → ◌≡◌ {A = Result A ℕ} (cond test (Ok found) (Err place)) (Err place)
+unmet : {A : Type 0} (test : Bool) (place : ℕ) (found : A) → (test ≡ true → ⊥)
+    → ◌≡◌ {A = Result A ℕ} (cond test (Ok found) (Err place)) (Err place)
 unmet true place found bad = absurd (bad refl)
 unmet false place found bad = refl
 

@@ -1,7 +1,8 @@
 -- What stands at the front of some bytes, read from the left, or the place of the first fault there.
 -- `place` is the place that a fault of what is read has; `end` is the place where the bytes end.
 -- proofs/Documents.antt ties it to the grammar.
-use Rattle.std.specs.Prelude.{ℕ, zero, suc, ◌≡◌, ◌<◌, ◌+◌, ◌-◌, ◌==◌, ◌||◌, nat_lt, true, false, if◌then◌else◌, List, [], ◌∷◌, length, take, drop, slice_index, Bool, Option, None, Some, Result, Ok, Err}
+use Rattle.std.specs.Prelude.{ℕ, zero, suc, ◌≡◌, ◌<◌, ◌+◌, ◌-◌, ◌==◌, ◌||◌, nat_lt, true, false, if◌then◌else◌, List, [], ◌∷◌, length, take}
+use Rattle.std.specs.Prelude.{drop, slice_index, Bool, Option, None, Some, Result, Ok, Err}
 use Rattle.std.specs.Int.{w32, w64, cast_signed}
 use Rattle.std.specs.List.{position}
 use Rattle.std.specs.Str.{is_utf8}
@@ -13,7 +14,7 @@ use Rattle.bson_values.specs.declared.value.Value.TheVariants as value
 use Rattle.bson_wire.specs.declared.foreign.Foreign.{Foreign}
 use Rattle.bson_wire.specs.declared.refused.ReadRefused.{ReadRefused}
 use Rattle.bson_wire.specs.declared.refused.ReadRefused.TheVariants.{Malformed, NoMemory}
-use Rattle.bson_wire.specs.Grammar.{Element, kept, foreigns, values}
+use Rattle.bson_wire.specs.Grammar.{most_levels, Element, kept, foreigns, values}
 
 -- the fault is at that place, unless memory ran out
 abbrev pub Fails : {Y : Type 0} → ReadRefused → Result Y ℕ → Type 0
@@ -159,7 +160,8 @@ foreign_at place code bytes =
     else if code == 255 then Ok bytes
     else Err place
 
-module _ (document : ℕ → List ℕ → Result (List (Pair Value) × List Foreign × List ℕ) ℕ) (array : ℕ → List ℕ → Result (List Value × List Foreign × List ℕ) ℕ) where
+module _ (document : ℕ → List ℕ → Result (List (Pair Value) × List Foreign × List ℕ) ℕ) (array : ℕ → List ℕ
+    → Result (List Value × List Foreign × List ℕ) ℕ) where
   -- by the type byte a document, an array, a foreign value, which is passed over, or a value that holds none
   unfoldable pub value_at : ℕ → ℕ → ℕ → List ℕ → Result (Option Value × List Foreign × List ℕ) ℕ
   value_at end place code bytes =
@@ -236,7 +238,7 @@ items_told found = found >>= λ it. Ok (values (kept it), first (foreigns it))
 
 -- the place of the first fault of what should be a document at the front; none where one is there
 abbrev pub fault : List ℕ → Option ℕ
-fault bytes = fault_of (document_at 128 (length bytes) bytes)
+fault bytes = fault_of (document_at most_levels (length bytes) bytes)
 
 -- malformed bytes are told by that place
 abbrev pub Tells : ReadRefused → List ℕ → Type 0

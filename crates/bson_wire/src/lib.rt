@@ -19,8 +19,4 @@ pub use scalars::name;
 pub use writing::{write, write_in};
 
 #[cfg(test)]
-mod passing;
-#[cfg(test)]
-mod places;
-#[cfg(test)]
 mod tests;

@@ -4,7 +4,8 @@ ghost use Rattle.bson_values.specs.declared.pairs.Pair.{Pair as Named};
 ghost use Rattle.bson_values.specs.declared.value.Value.{Value as Held};
 ghost use Rattle.bson_wire.specs.declared.foreign.Foreign.{Foreign as Other};
 ghost use Rattle.bson_wire.specs.Grammar.{pair_of, values, spells};
-ghost use Rattle.bson_wire.specs.Reading.{Gives, Tells, value_at, element_at, all_at, document_at, array_at, first, Before, with_first, element_told, pairs_told, items_told};
+ghost use Rattle.bson_wire.specs.Reading.{Gives, Tells, value_at, element_at, all_at, document_at, array_at, first, Before, with_first};
+ghost use Rattle.bson_wire.specs.Reading.{element_told, pairs_told, items_told};
 
 use crate::foreign::{Foreign, is_foreign, past_foreign};
 use crate::refused::ReadRefused;

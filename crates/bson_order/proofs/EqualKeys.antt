@@ -189,8 +189,7 @@ record IsShort (layer : Value-F Value) : Type 0 where
 
 -- variant by variant
 layers_told : (levels : ℕ) → AreTold levels → (layer like : Value-F Value) (x y : List ℕ) → layer_depth layer < suc levels → IsShort layer
-    → IsShort like
-    → (held_layer Key layer).0 ≡ (held_layer Key like).0 → (held_layer Key layer).1 ++ x ≡ (held_layer Key like).1 ++ y
+    → IsShort like → (held_layer Key layer).0 ≡ (held_layer Key like).0 → (held_layer Key layer).1 ++ x ≡ (held_layer Key like).1 ++ y
     → (layer_cmp rank_of compared layer like ≡ Equal) × (x ≡ y)
 layers_told levels are (Value-F.Int number) (Value-F.Int other) x y below is same codes whole =
     longs_told number other x y (widened number is.plain) (widened other same.plain) whole

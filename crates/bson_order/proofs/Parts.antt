@@ -47,8 +47,7 @@ counted_cut one other x y small like whole =
 
 -- a length, and what is so long
 pub held_cut : (one other : ℕ) (inside within x y : List ℕ) → one < 2 ^ 63 → other < 2 ^ 63 → (one ≡ other → length inside ≡ length within)
-    → (counted Key one ++ inside) ++ x ≡ (counted Key other ++ within) ++ y
-    → (inside ≡ within) × (x ≡ y)
+    → (counted Key one ++ inside) ++ x ≡ (counted Key other ++ within) ++ y → (inside ≡ within) × (x ≡ y)
 held_cut one other inside within x y small like long whole =
     let both = counted_cut one other (inside ++ x) (within ++ y) small like (sym (append_assoc (counted Key one) inside x) ∙ whole
     ∙ append_assoc (counted Key other) within y) in

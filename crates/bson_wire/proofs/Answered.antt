@@ -15,8 +15,7 @@ use Rattle.bson_wire.proofs.Values.{Doc}
 
 -- what was told with its first foreign element was read with a list of them
 untold : (read : Result (Doc × List Foreign × List ℕ) ℕ) (doc : Doc) (foreign : Option Foreign) (rest : List ℕ)
-    → with_first read ≡ Ok (doc, foreign, rest)
-    → (all : List Foreign) × (read ≡ Ok (doc, all, rest)) × (foreign ≡ first all)
+    → with_first read ≡ Ok (doc, foreign, rest) → (all : List Foreign) × (read ≡ Ok (doc, all, rest)) × (foreign ≡ first all)
 untold read doc foreign rest is =
     let found = bind_ok read (λ it. Ok (it.0, first it.1, it.2)) (doc, foreign, rest) is in
     let same = same_Ok (found.0.0, first found.0.1, found.0.2) (doc, foreign, rest) found.2 in (

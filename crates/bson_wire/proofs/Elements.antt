@@ -166,8 +166,7 @@ module _ (document : ℕ → List ℕ → Result (List (Pair Value) × List Fore
     pub goes-more : (bytes rest name after : List ℕ) (found : List A) (foreign inner : Option Foreign) (value : Option Value)
         → Goes bytes rest found foreign → 0 < length rest
         → element_told (element_at document array end (get_or rest 0 0) (drop 1 rest)) ≡ Ok (name, value, inner, after)
-        → length after ≤ length (drop 1 rest)
-        → Goes bytes after (found ++ one name value) (option_or foreign inner)
+        → length after ≤ length (drop 1 rest) → Goes bytes after (found ++ one name value) (option_or foreign inner)
     goes-more bytes rest name after found foreign inner value goes some is shorter =
         let read = element-told (get_or rest 0 0) (drop 1 rest) name after value inner is in
         let below : length after < length rest = omega (arith, length-drop 1 rest) in

@@ -25,8 +25,7 @@ module _ (document : ℕ → List ℕ → Result (List (Pair Value) × List Fore
   made found = found >>= λ it. Ok (keep it.0, foreigns it.0, it.1)
 
   told-ok : (found : Result (List Element) ℕ) (ended : Result (List ℕ) ℕ) (it : List A × Option Foreign) (last : List ℕ)
-      → told_by found ≡ Ok it → ended ≡ Ok last
-      → with_first (made (found >>= λ all. shut all ended)) ≡ Ok (it.0, it.1, rest)
+      → told_by found ≡ Ok it → ended ≡ Ok last → with_first (made (found >>= λ all. shut all ended)) ≡ Ok (it.0, it.1, rest)
   told-ok (Err place) ended it last told is = absurd cc
   told-ok (Ok all) (Err place) it last told is = absurd cc
   told-ok (Ok all) (Ok inside) it last told is = ap (λ (both : List A × Option Foreign). Ok (both.0, both.1, rest))
@@ -39,8 +38,7 @@ module _ (document : ℕ → List ℕ → Result (List (Pair Value) × List Fore
 
   pub enclosed-all : (found : List A) (foreign : Option Foreign) (last : List ℕ)
       → told_by (all_at document array (end - (length rest + 1)) inside) ≡ Ok (found, foreign)
-      → ended_at (end - length bytes) part ≡ Ok last
-      → with_first (made (enclosed_at document array end bytes)) ≡ Ok (found, foreign, rest)
+      → ended_at (end - length bytes) part ≡ Ok last → with_first (made (enclosed_at document array end bytes)) ≡ Ok (found, foreign, rest)
   unfolding enclosed_at
   enclosed-all found foreign last all ended =
       let all' = rw is at all in

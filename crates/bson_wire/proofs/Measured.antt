@@ -11,7 +11,7 @@ use Rattle.bson_values.specs.declared.value.Value.TheVariants as value
 use Rattle.bson_values.specs.declared.value.Value.TheOpen.{Value-F}
 use Rattle.bson_values.specs.declared.value.Value.TheFolds.{fold-roll-Value, ind-Value}
 use Rattle.bson_spelling.specs.declared.form.Form.TheVariants.{Bson}
-use Rattle.bson_spelling.specs.Spelling.{cstring, element_of, items_from, held_in, held, enclosed, spell}
+use Rattle.bson_spelling.specs.Spelling.{element_of, items_from, held_in, held, enclosed, spell}
 use Rattle.bson_spelling.proofs.Helds.{Spelled, along, joined, held_by, doc-held}
 use Rattle.bson_spelling.proofs.Sizes.{length-string, length-binary, length-enclosed, length-element_of, length-regex}
 

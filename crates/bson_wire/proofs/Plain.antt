@@ -59,8 +59,7 @@ by_type Is this code one other found is here there =
 
 -- a stated length, that many bytes with their 00, and the rest are a string and the rest
 string_made : (bytes : List ℕ) (stated : ℕ) (after part content rest text : List ℕ) → bytes ≡ int32 stated ++ after → after ≡ part ++ rest
-    → part ≡ cstring content → length part ≡ stated → content ≡ text
-    → bytes ≡ string Bson text ++ rest
+    → part ≡ cstring content → length part ≡ stated → content ≡ text → bytes ≡ string Bson text ++ rest
 string_made bytes stated after part content rest text front parted ended counted same =
     let len : length content + 1 ≡ stated = omega (arith, counted, ap length ended, length-append content (0 ∷ [])) in
     let spelling : int32 stated ++ part ≡ string Bson text = ap (λ (it : List ℕ). int32 stated ++ it) ended

@@ -112,8 +112,7 @@ module _ (IsDocument : ℕ → List ℕ → Doc → List Foreign → Type 0) (do
 
   pub value_takes : AreTaken IsDocument document → AreTaken (IsArrayAt IsDocument) array
       → (end place inner code : ℕ) (bytes : List ℕ) (found : Option Value × List Foreign × List ℕ) → IsBytes bytes
-      → inner + length bytes ≡ end
-      → value_at document array end place code bytes ≡ Ok found → Content place inner code bytes found
+      → inner + length bytes ≡ end → value_at document array end place code bytes ≡ Ok found → Content place inner code bytes found
   unfolding value_at
   value_takes docs arrays end place inner code bytes found fits at is =
       by_type (λ c. Content place inner c bytes found) 3 code _ _ found is (doc_takes docs end place inner bytes found fits at)
@@ -131,8 +130,7 @@ module _ (IsDocument : ℕ → List ℕ → Doc → List Foreign → Type 0) (do
 
   -- a value that holds none
   alone : (found : Result (Value × List ℕ) ℕ) (foreign : List Foreign) (rest : List ℕ) (it rolled : Value) → found ≡ Ok (it, rest)
-      → foreign ≡ [] → rolled ≡ it
-      → ◌≡◌ {A = Result (Option Value × List Foreign × List ℕ) ℕ} (found >>= λ it. Ok (Some it.0, [], it.1))
+      → foreign ≡ [] → rolled ≡ it → ◌≡◌ {A = Result (Option Value × List Foreign × List ℕ) ℕ} (found >>= λ it. Ok (Some it.0, [], it.1))
       (Ok (Some rolled, foreign, rest))
   alone found foreign rest it rolled is none same =
       ap (λ (found : Result (Value × List ℕ) ℕ). found >>= λ it. Ok (Some it.0, [], it.1)) is
@@ -260,8 +258,7 @@ module _ (IsDocument : ℕ → List ℕ → Doc → List Foreign → Type 0) (do
 
   pub elements_again : AreRead IsDocument document → AreRead (IsArrayAt IsDocument) array
       → (elements : List Element) (most end place : ℕ) (bytes : List ℕ) → AreElements IsDocument place bytes elements
-      → place + length bytes ≡ end → length bytes < most
-      → elements_at document array most end bytes ≡ Ok elements
+      → place + length bytes ≡ end → length bytes < most → elements_at document array most end bytes ≡ Ok elements
   unfolding elements_at
   elements_again docs arrays elements zero end place bytes are at below = absurd (omega arith)
   elements_again docs arrays [] (suc most) end place bytes are at below = rw are refl

@@ -51,8 +51,7 @@ layer_fits levels are place code content (Value-F.Long number) foreign is = is.1
 
 -- so has what is kept of an element
 kept_fits : (levels : ℕ) → AreFit levels → (place inner code : ℕ) (name content : List ℕ) (value : Option Value) (foreign : List Foreign)
-    (rest : Doc) → IsName name
-    → Yields (spells_within levels) place inner code content value foreign → All (IsFit levels) rest
+    (rest : Doc) → IsName name → Yields (spells_within levels) place inner code content value foreign → All (IsFit levels) rest
     → All (IsFit levels) (pair_of name value ++ rest)
 kept_fits levels are place inner code name content None foreign rest named is fits = fits
 kept_fits levels are place inner code name content (Some value) foreign rest named is fits =

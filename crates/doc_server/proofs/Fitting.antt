@@ -8,6 +8,7 @@ use Rattle.bson_values.specs.declared.value.Value.{Value}
 use Rattle.bson_values.specs.declared.value.Value.TheVariants as value
 use Rattle.bson_values.specs.Measures.{items_size, value_size}
 use Rattle.bson_values.proofs.Totals.{digits_few, size_items}
+use Rattle.bson_spelling.specs.declared.form.Form.TheVariants.{Bson}
 use Rattle.bson_wire.specs.Spelling.{spell, held}
 use Rattle.bson_wire.proofs.Measured.{value_measured, measured}
 use Rattle.bson_wire.proofs.Sizes.{spell-push}
@@ -20,7 +21,7 @@ use Rattle.case_tables.proofs.Bounds.{text_short, name_short, type_name_short}
 use Rattle.command_words.specs.Meaning.{IsNamed}
 use Rattle.doc_server.specs.Replies.{field, ok_document, error_saying, error_document, sentence_of, refusal_document, inserted_document, item_error, refused_document, namespace, cursor_document, batch_document, total_size, fit_a_batch}
 
-size-Arr : (items : List Value) → length (held (value.Arr items)).1 ≡ items_size 0 (map value_size items) + 5
+size-Arr : (items : List Value) → length (held Bson (value.Arr items)).1 ≡ items_size 0 (map value_size items) + 5
 size-Arr items = sym (value_measured (value.Arr items)) ∙ size_items items
 
 pub ok_fits : length (spell ok_document) ≤ 47999000

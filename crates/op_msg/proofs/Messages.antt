@@ -8,7 +8,7 @@ use Rattle.std.proofs.lemmas.List.{take-append-drop, drop-drop, drop_more}
 use Rattle.byteorder.specs.Endian.{little_number}
 use Rattle.byteorder.specs.Numbers.{little_from-lt, little_number-reads_back}
 use Rattle.bson_wire.specs.Spelling.{int32}
-use Rattle.bson_wire.proofs.Bytes.{IsBytes, IsBytes-rest}
+use Rattle.std_words.proofs.Bytes.{IsBytes, IsBytes-rest}
 use Rattle.std_words.proofs.Faults.{same_Ok, bind_ok, unless_ok}
 use Rattle.op_msg.specs.declared.message.Message.{Message}
 use Rattle.op_msg.specs.declared.message.BadKind.TheVariants.{Flags, Checksum, Section}

@@ -10,7 +10,7 @@ use Rattle.bson_wire.specs.declared.foreign.Foreign.{Foreign}
 use Rattle.bson_wire.specs.Grammar.{IsName}
 use Rattle.std_words.specs.Steps.{◌>>=◌}
 use Rattle.bson_wire.specs.Reading.{document_at, name_at, number_at, first}
-use Rattle.bson_wire.proofs.Bytes.{IsBytes, IsBytes-front, IsBytes-rest}
+use Rattle.std_words.proofs.Bytes.{IsBytes, IsBytes-front, IsBytes-rest}
 use Rattle.bson_wire.proofs.Documents.{document_takes, document_again}
 use Rattle.bson_wire.proofs.Names.{name_takes, name_again}
 use Rattle.bson_wire.proofs.Numbers.{number_takes}

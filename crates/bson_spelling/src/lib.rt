@@ -8,6 +8,3 @@ mod writing;
 pub use counting::content_len;
 pub use form::Form;
 pub use writing::{put_document, put_tagged};
-
-#[cfg(test)]
-mod tests;

@@ -59,8 +59,10 @@ pairs_agree levels agree (pair ∷ pairs) (other ∷ others) below =
     let ranks = nat_cmp (rank_of pair.value) (rank_of other.value) in
     let names = bytes_cmp pair.name other.name in
     let rest = slice_cmp (pair_cmp rank_of compared) pairs others in
-    ap (λ (last : Ordering). ordering_then (ordering_then ranks (ordering_then names last)) rest) (agree pair.value (omega arith) other.value)
-    ∙ ap (λ (rest : Ordering). ordering_then (pair_cmp rank_of (within levels) pair other) rest) (pairs_agree levels agree pairs others (omega arith))
+    ap (λ (last : Ordering). ordering_then (ordering_then ranks (ordering_then names last)) rest)
+    (agree pair.value (omega arith) other.value)
+    ∙ ap (λ (rest : Ordering). ordering_then (pair_cmp rank_of (within levels) pair other) rest)
+    (pairs_agree levels agree pairs others (omega arith))
 
 items_agree : (levels : ℕ) → Agrees levels → (items others : List Value) → most (map depth items) < levels
     → slice_cmp compared items others ≡ slice_cmp (within levels) items others
@@ -80,4 +82,5 @@ layers_agree levels agree layer other below = refl
 -- a value of fewer levels is compared so
 pub agrees : (levels : ℕ) → Agrees levels
 agrees zero one below other = absurd (omega arith)
-agrees (suc levels) one below other = compared_is one other ∙ layers_agree levels (agrees levels) (out-Value one) (out-Value other) (omega (arith, depth_is one))
+agrees (suc levels) one below other = compared_is one other ∙ layers_agree levels (agrees levels) (out-Value one) (out-Value other)
+    (omega (arith, depth_is one))

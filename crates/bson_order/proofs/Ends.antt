@@ -15,7 +15,8 @@ ends order (x ∷ xs) (y ∷ ys) shorter = ends order xs ys (omega arith) ∙ gr
 
 -- as far as the first list goes the two are the same
 pub both_ended : {A : Type 0} (order : A → A → Ordering) (xs ys one other : List A) (place long far : ℕ) (result : Ordering)
-    → xs ≡ one → ys ≡ other → place ≡ length xs → place ≤ length ys → slice_cmp order (drop place xs) (drop place ys) ≡ slice_cmp order xs ys
+    → xs ≡ one → ys ≡ other → place ≡ length xs → place ≤ length ys
+    → slice_cmp order (drop place xs) (drop place ys) ≡ slice_cmp order xs ys
     → long ≡ length one → far ≡ length other → result ≡ nat_cmp long far → result ≡ slice_cmp order one other
 both_ended {A} order xs ys one other place long far result is like end shorter left counted found given =
     let lengths : nat_cmp (length xs) (length ys) ≡ result = rw (is, like, ← counted, ← found) (sym given) in

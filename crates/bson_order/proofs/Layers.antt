@@ -44,7 +44,8 @@ side_rank it = ap rank (fold_out-Value Side side_in it) ∙ rank_map (out-Value 
 abbrev along : Pair Value → Pair Side
 along pair = record { name = pair.name; value = side pair.value }
 
-pairs_map : (pairs others : List (Pair Value)) → slice_cmp (pair_cmp rank beside) (map along pairs) others ≡ slice_cmp (pair_cmp rank_of compared) pairs others
+pairs_map : (pairs others : List (Pair Value)) → slice_cmp (pair_cmp rank beside) (map along pairs) others
+    ≡ slice_cmp (pair_cmp rank_of compared) pairs others
 pairs_map [] [] = refl
 pairs_map [] (other ∷ others) = refl
 pairs_map (pair ∷ pairs) [] = refl
@@ -71,12 +72,17 @@ compared_is one other = ap (λ (s : Side). s.beside other) (fold_out-Value Side 
 
 -- ---- values that hold others
 
-by_layers : (one other : Value) (layer like : Value-F Value) → out-Value one ≡ layer → out-Value other ≡ like → compared one other ≡ layer_cmp rank_of compared layer like
+by_layers : (one other : Value) (layer like : Value-F Value) → out-Value one ≡ layer → out-Value other ≡ like
+    → compared one other ≡ layer_cmp rank_of compared layer like
 by_layers one other layer like is alike =
-    compared_is one other ∙ ap (λ (it : Value-F Value). layer_cmp rank_of compared it (out-Value other)) is ∙ ap (λ (it : Value-F Value). layer_cmp rank_of compared layer it) alike
+    compared_is one other ∙ ap (λ (it : Value-F Value). layer_cmp rank_of compared it (out-Value other)) is
+    ∙ ap (λ (it : Value-F Value). layer_cmp rank_of compared layer it) alike
 
-pub compared_pairs : (pairs others : List (Pair Value)) → compared (value.Doc pairs) (value.Doc others) ≡ slice_cmp (pair_cmp rank_of compared) pairs others
-compared_pairs pairs others = by_layers (value.Doc pairs) (value.Doc others) (Value-F.Doc pairs) (Value-F.Doc others) (value.outs-Doc pairs) (value.outs-Doc others)
+pub compared_pairs : (pairs others : List (Pair Value)) → compared (value.Doc pairs) (value.Doc others)
+    ≡ slice_cmp (pair_cmp rank_of compared) pairs others
+compared_pairs pairs others = by_layers (value.Doc pairs) (value.Doc others) (Value-F.Doc pairs) (Value-F.Doc others) (value.outs-Doc pairs)
+    (value.outs-Doc others)
 
 pub compared_items : (items others : List Value) → compared (value.Arr items) (value.Arr others) ≡ slice_cmp compared items others
-compared_items items others = by_layers (value.Arr items) (value.Arr others) (Value-F.Arr items) (Value-F.Arr others) (value.outs-Arr items) (value.outs-Arr others)
+compared_items items others = by_layers (value.Arr items) (value.Arr others) (Value-F.Arr items) (Value-F.Arr others) (value.outs-Arr items)
+    (value.outs-Arr others)

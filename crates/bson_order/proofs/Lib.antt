@@ -4,7 +4,6 @@ pub mod Ties
 pub mod Depths
 pub mod Total
 pub mod Places
-pub mod Helds
 pub mod Parts
 pub mod Plains
 pub mod SameKeys

@@ -1,5 +1,6 @@
 -- Plain values, one level at a time.
-use Rattle.std.proofs.Common.{◌≡◌, ◌↔◌, ◌<◌, ◌≤◌, ◌+◌, ℕ, Bool, true, List, [], ◌∷◌, length, get_or, take, map, All, refl, sym, ap, subst, ◌∙◌}
+use Rattle.std.proofs.Common.{◌≡◌, ◌↔◌, ◌<◌, ◌≤◌, ◌+◌, ℕ, Bool, true, List, [], ◌∷◌, length, get_or, take, map, All, refl, sym, ap, subst}
+use Rattle.std.proofs.Common.{◌∙◌}
 use Rattle.std.specs.Prelude.{IsTrue}
 use Rattle.std.proofs.lemmas.List.{take_more, take_all}
 use Rattle.std.proofs.lemmas.List.Elements.{All-head, All-tail, All-nil, All-cons, All-push}
@@ -31,7 +32,8 @@ PlainValue = (it : Value) × IsPlain it
 abbrev bare : PlainValue → Value
 bare it = it.0
 
-plain_pairs : (pairs : List (Pair PlainValue)) → PlainPairs (map (λ (pair : Pair PlainValue). record { name = pair.name; value = bare pair.value }) pairs)
+plain_pairs : (pairs : List (Pair PlainValue)) → PlainPairs (map
+    (λ (pair : Pair PlainValue). record { name = pair.name; value = bare pair.value }) pairs)
 plain_pairs [] = tt
 plain_pairs (pair ∷ pairs) = (pair.value.1, plain_pairs pairs)
 
@@ -42,16 +44,7 @@ plain_items (item ∷ items) = (item.1, plain_items items)
 holds_bare : (layer : Value-F PlainValue) → HoldsPlain (map-Value PlainValue Value bare layer)
 holds_bare (Value-F.Doc pairs) = plain_pairs pairs
 holds_bare (Value-F.Arr items) = plain_items items
-holds_bare (Value-F.Str text) = tt
-holds_bare (Value-F.Bin it) = tt
-holds_bare (Value-F.Id id) = tt
-holds_bare (Value-F.Bool truth) = tt
-holds_bare (Value-F.Date moment) = tt
-holds_bare Value-F.Null = tt
-holds_bare (Value-F.Regex regex) = tt
-holds_bare (Value-F.Int number) = tt
-holds_bare (Value-F.Stamp stamp) = tt
-holds_bare (Value-F.Long number) = tt
+holds_bare layer = tt
 
 -- a plain value holds plain values
 pub holds_plain : (it : Value) → IsPlain it → HoldsPlain (out-Value it)
@@ -79,8 +72,10 @@ items_proved (item ∷ items) plain =
     ((item, plain.0) ∷ rest.0, ap (λ (more : List Value). item ∷ more) rest.1)
 
 layer_proved : (layer : Value-F Value) → HoldsPlain layer → Proved layer
-layer_proved (Value-F.Doc pairs) plain = let proved = pairs_proved pairs plain in (Value-F.Doc proved.0, ap (λ (all : List (Pair Value)). Value-F.Doc all) proved.1)
-layer_proved (Value-F.Arr items) plain = let proved = items_proved items plain in (Value-F.Arr proved.0, ap (λ (all : List Value). Value-F.Arr all) proved.1)
+layer_proved (Value-F.Doc pairs) plain = let proved = pairs_proved pairs plain in
+    (Value-F.Doc proved.0, ap (λ (all : List (Pair Value)). Value-F.Doc all) proved.1)
+layer_proved (Value-F.Arr items) plain = let proved = items_proved items plain in
+    (Value-F.Arr proved.0, ap (λ (all : List Value). Value-F.Arr all) proved.1)
 layer_proved (Value-F.Str text) plain = (Value-F.Str text, refl)
 layer_proved (Value-F.Bin it) plain = (Value-F.Bin it, refl)
 layer_proved (Value-F.Id id) plain = (Value-F.Id id, refl)
@@ -100,14 +95,16 @@ made_plain it here holds =
 
 -- ---- by All
 
-pairs_from_all : (pairs : List (Pair Value)) → All IsPlainPair pairs → All (λ (pair : Pair Value). HasNoNul pair.name) pairs × PlainPairs pairs
+pairs_from_all : (pairs : List (Pair Value)) → All IsPlainPair pairs
+    → All (λ (pair : Pair Value). HasNoNul pair.name) pairs × PlainPairs pairs
 pairs_from_all [] all = (All-nil (λ (pair : Pair Value). HasNoNul pair.name), tt)
 pairs_from_all (pair ∷ pairs) all =
     let first = All-head IsPlainPair pair pairs all in
     let rest = pairs_from_all pairs (All-tail IsPlainPair pair pairs all) in
     (All-cons (λ (pair : Pair Value). HasNoNul pair.name) pair pairs first.0 rest.0, (first.1, rest.1))
 
-all_from_pairs : (pairs : List (Pair Value)) → All (λ (pair : Pair Value). HasNoNul pair.name) pairs → PlainPairs pairs → All IsPlainPair pairs
+all_from_pairs : (pairs : List (Pair Value)) → All (λ (pair : Pair Value). HasNoNul pair.name) pairs → PlainPairs pairs
+    → All IsPlainPair pairs
 all_from_pairs [] names plain = All-nil IsPlainPair
 all_from_pairs (pair ∷ pairs) names plain =
     All-cons IsPlainPair pair pairs (All-head (λ (pair : Pair Value). HasNoNul pair.name) pair pairs names, plain.0)
@@ -130,33 +127,16 @@ PlainLayer layer = IsPlainLayer layer
 layer_from : (layer : Value-F Value) → PlainLayer layer → IsPlainLayer layer × HoldsPlain layer
 layer_from (Value-F.Doc pairs) plain = pairs_from_all pairs plain
 layer_from (Value-F.Arr items) plain = (tt, items_from_all items plain)
-layer_from (Value-F.Str text) plain = (tt, tt)
-layer_from (Value-F.Bin it) plain = (tt, tt)
-layer_from (Value-F.Id id) plain = (plain, tt)
-layer_from (Value-F.Bool truth) plain = (tt, tt)
-layer_from (Value-F.Date moment) plain = (plain, tt)
-layer_from Value-F.Null plain = (tt, tt)
-layer_from (Value-F.Regex regex) plain = (plain, tt)
-layer_from (Value-F.Int number) plain = (plain, tt)
-layer_from (Value-F.Stamp stamp) plain = (plain, tt)
-layer_from (Value-F.Long number) plain = (plain, tt)
+layer_from layer plain = (plain, tt)
 
 layer_to : (layer : Value-F Value) → IsPlainLayer layer → HoldsPlain layer → PlainLayer layer
 layer_to (Value-F.Doc pairs) here holds = all_from_pairs pairs here holds
 layer_to (Value-F.Arr items) here holds = all_from_items items holds
-layer_to (Value-F.Str text) here holds = tt
-layer_to (Value-F.Bin it) here holds = tt
-layer_to (Value-F.Id id) here holds = here
-layer_to (Value-F.Bool truth) here holds = tt
-layer_to (Value-F.Date moment) here holds = here
-layer_to Value-F.Null here holds = tt
-layer_to (Value-F.Regex regex) here holds = here
-layer_to (Value-F.Int number) here holds = here
-layer_to (Value-F.Stamp stamp) here holds = here
-layer_to (Value-F.Long number) here holds = here
+layer_to layer here holds = here
 
 -- an answer on the layer is one on the value
-pub plain_by : (it : Value) (layer : Value-F Value) (answer : Bool) → out-Value it ≡ layer → (IsTrue answer ↔ PlainLayer layer) → IsTrue answer ↔ IsPlain it
+pub plain_by : (it : Value) (layer : Value-F Value) (answer : Bool) → out-Value it ≡ layer → (IsTrue answer ↔ PlainLayer layer)
+    → IsTrue answer ↔ IsPlain it
 plain_by it layer answer is on_layer = (
   (λ yes. let both = layer_from (out-Value it) (subst PlainLayer (sym is) (on_layer.0 yes)) in made_plain it both.0 both.1),
   (λ plain. on_layer.1 (subst PlainLayer is (layer_to (out-Value it) (every_here-Value IsPlainLayer it plain) (holds_plain it plain)))),
@@ -169,9 +149,12 @@ always fact = ((λ yes. fact), (λ it. refl))
 -- ---- loops
 
 -- one more
-pub all_more : {X : Type 0} (P : X → Type 0) (xs : List X) (place : ℕ) (x : X) → x ≡ get_or xs place x → place < length xs → All P (take place xs) → P x → All P (take (place + 1) xs)
-all_more P xs place x is within all here = subst (λ them. All P them) (sym (take_more xs place x within)) (All-push P (take place xs) (get_or xs place x) all (subst P is here))
+pub all_more : {X : Type 0} (P : X → Type 0) (xs : List X) (place : ℕ) (x : X) → x ≡ get_or xs place x → place < length xs
+    → All P (take place xs) → P x → All P (take (place + 1) xs)
+all_more P xs place x is within all here = subst (λ them. All P them) (sym (take_more xs place x within))
+    (All-push P (take place xs) (get_or xs place x) all (subst P is here))
 
 -- none left
-pub all_done : {X : Type 0} (P : X → Type 0) (xs ys : List X) (place : ℕ) → xs ≡ ys → length xs ≤ place → All P (take place xs) → IsTrue true ↔ All P ys
+pub all_done : {X : Type 0} (P : X → Type 0) (xs ys : List X) (place : ℕ) → xs ≡ ys → length xs ≤ place → All P (take place xs)
+    → IsTrue true ↔ All P ys
 all_done P xs ys place is end all = always (subst (λ them. All P them) (take_all place xs end ∙ is) all)

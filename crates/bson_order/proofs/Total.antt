@@ -1,5 +1,6 @@
 -- The comparison is a total order.
-use Rattle.std.proofs.Common.{◌≡◌, ◌<◌, ℕ, ℤ, zero, suc, ◌+◌, Bool, true, false, List, [], ◌∷◌, length, pos, refl, sym, ap, subst, ◌∙◌, arith}
+use Rattle.std.proofs.Common.{◌≡◌, ◌<◌, ℕ, ℤ, zero, suc, ◌+◌, Bool, true, false, List, [], ◌∷◌, length, pos, refl, sym, ap, subst, ◌∙◌}
+use Rattle.std.proofs.Common.{arith}
 use Rattle.std.specs.declared.cmp.Ordering.{Ordering}
 use Rattle.std.specs.declared.cmp.Ordering.TheVariants.{Less, Equal, Greater}
 use Rattle.std.specs.Ordering.{nat_cmp, int_cmp, bool_cmp, ordering_then, ordering_reverse, then_cmp, on}
@@ -86,12 +87,14 @@ module _ (order : Value → Value → Ordering) where
   chain_is (Value-F.Str text) (Value-F.Str other) = last (bytes_cmp text other)
   chain_is (Value-F.Doc pairs) (Value-F.Doc others) = last (slice_cmp (pair_cmp rank_of order) pairs others)
   chain_is (Value-F.Arr items) (Value-F.Arr others) = refl
-  chain_is (Value-F.Bin it) (Value-F.Bin other) = ap (λ (rest : Ordering). ordering_then (nat_cmp (length it.bytes) (length other.bytes)) rest) (last (bytes_cmp (it.subtype ∷ it.bytes) (other.subtype ∷ other.bytes)))
+  chain_is (Value-F.Bin it) (Value-F.Bin other) = ap (λ (rest : Ordering). ordering_then
+      (nat_cmp (length it.bytes) (length other.bytes)) rest) (last (bytes_cmp (it.subtype ∷ it.bytes) (other.subtype ∷ other.bytes)))
   chain_is (Value-F.Id id) (Value-F.Id other) = last (bytes_cmp id other)
   chain_is (Value-F.Bool truth) (Value-F.Bool other) = truths truth other
   chain_is (Value-F.Date moment) (Value-F.Date other) = last (int_cmp moment other)
   chain_is (Value-F.Stamp stamp) (Value-F.Stamp other) = last (nat_cmp stamp other)
-  chain_is (Value-F.Regex regex) (Value-F.Regex other) = ap (λ (rest : Ordering). ordering_then (bytes_cmp regex.pattern other.pattern) rest) (last (bytes_cmp regex.options other.options))
+  chain_is (Value-F.Regex regex) (Value-F.Regex other) = ap (λ (rest : Ordering). ordering_then
+      (bytes_cmp regex.pattern other.pattern) rest) (last (bytes_cmp regex.options other.options))
   chain_is Value-F.Null Value-F.Null = refl
   chain_is one other = refl
 
@@ -127,18 +130,22 @@ compared_total = record {
       agrees levels x (omega arith) y ∙ (within_total levels).antisymm x y ∙ ap ordering_reverse (sym (agrees levels y (omega arith) x));
   trans = λ x y z one two.
       let levels = depth x + depth y + 1 in
-      agrees levels x (omega arith) z ∙ (within_total levels).trans x y z (sym (agrees levels x (omega arith) y) ∙ one) (sym (agrees levels y (omega arith) z) ∙ two);
+      agrees levels x (omega arith) z ∙ (within_total levels).trans x y z (sym (agrees levels x (omega arith) y)
+      ∙ one) (sym (agrees levels y (omega arith) z) ∙ two);
   congr = λ x y z same.
       let levels = depth x + depth y + 1 in
-      agrees levels x (omega arith) z ∙ (within_total levels).congr x y z (sym (agrees levels x (omega arith) y) ∙ same) ∙ sym (agrees levels y (omega arith) z);
+      agrees levels x (omega arith) z ∙ (within_total levels).congr x y z (sym (agrees levels x (omega arith) y) ∙ same)
+      ∙ sym (agrees levels y (omega arith) z);
 }
 
 -- a value of a lower rank is below
 pub lower_rank : (one other : Value) → rank_of one < rank_of other → Below one other
 lower_rank one other lower =
     let ranks : nat_cmp (rank_of one) (rank_of other) ≡ Less = grind (arith, nat_tests) in
-    compared_is one other ∙ chain_is compared (out-Value one) (out-Value other) ∙ first_decides (nat_cmp (rank_of one) (rank_of other)) _ ranks
+    compared_is one other ∙ chain_is compared (out-Value one) (out-Value other)
+    ∙ first_decides (nat_cmp (rank_of one) (rank_of other)) _ ranks
 
 -- values that are the same have one rank
 pub same_rank : (one other : Value) → Same one other → nat_cmp (rank_of one) (rank_of other) ≡ Equal
-same_rank one other same = first_tied (nat_cmp (rank_of one) (rank_of other)) _ (sym (chain_is compared (out-Value one) (out-Value other)) ∙ sym (compared_is one other) ∙ same)
+same_rank one other same = first_tied (nat_cmp (rank_of one) (rank_of other)) _ (sym (chain_is compared (out-Value one) (out-Value other))
+    ∙ sym (compared_is one other) ∙ same)

@@ -7,7 +7,11 @@ use Rattle.byteorder.specs.Endian.{little_number}
 use Rattle.bson_values.specs.declared.value.Value.{Value}
 use Rattle.bson_values.specs.declared.value.Value.TheVariants as value
 use Rattle.bson_wire.specs.declared.foreign.Foreign.{Foreign}
-use Rattle.bson_wire.specs.Reading.{◌>>=◌, number_at, long_at, length_at, part_at, ended_at, text_of, nul_at, name_at, text_at, string_at, binary_at, id_at, bool_at, regex_at, int_at, date_at, stamp_at, int64_at, scalar_at, is_foreign, past_at, past_text_at, past_scoped_at, foreign_at, value_at, element_at, elements_at, enclosed_at, document_at, array_at}
+use Rattle.std_words.specs.Steps.{◌>>=◌}
+use Rattle.bson_wire.specs.Reading.{number_at, long_at, length_at, part_at, ended_at, text_of, nul_at, name_at, text_at, string_at}
+use Rattle.bson_wire.specs.Reading.{binary_at, id_at, bool_at, regex_at, int_at, date_at, stamp_at, int64_at, scalar_at, is_foreign}
+use Rattle.bson_wire.specs.Reading.{past_at, past_text_at, past_scoped_at, foreign_at, value_at, element_at, elements_at, enclosed_at}
+use Rattle.bson_wire.specs.Reading.{document_at, array_at}
 use Rattle.bson_wire.proofs.Values.{Doc}
 
 -- the fault, where there is one, is at no later place
@@ -19,7 +23,8 @@ either : {A : Type 0} (end : ℕ) (test : Bool) (x y : Result A ℕ) → NotPast
 either end true x y one other = one
 either end false x y one other = other
 
-then_ : {A B : Type 0} (end : ℕ) (found : Result A ℕ) (next : A → Result B ℕ) → NotPast end found → ((it : A) → NotPast end (next it)) → NotPast end (found >>= next)
+then_ : {A B : Type 0} (end : ℕ) (found : Result A ℕ) (next : A → Result B ℕ) → NotPast end found → ((it : A) → NotPast end (next it))
+    → NotPast end (found >>= next)
 then_ end (Err place) next one other = one
 then_ end (Ok it) next one other = other it
 
@@ -42,7 +47,8 @@ long-not place bytes = either place (nat_lt (length bytes) 8) (Err place) (Ok (l
 
 length-not : (place least : ℕ) (bytes : List ℕ) → NotPast place (length_at place least bytes)
 unfolding length_at
-length-not place least bytes = then_ place (number_at place bytes) _ (number-not place bytes) (λ n. either place (nat_lt n.0 least || nat_lt 2147483647 n.0) (Err place) (Ok n) (omega arith) tt)
+length-not place least bytes = then_ place (number_at place bytes) _ (number-not place bytes)
+    (λ n. either place (nat_lt n.0 least || nat_lt 2147483647 n.0) (Err place) (Ok n) (omega arith) tt)
 
 part-not : (place len : ℕ) (bytes : List ℕ) → NotPast place (part_at place len bytes)
 unfolding part_at
@@ -50,7 +56,8 @@ part-not place len bytes = either place (nat_lt (length bytes) len) (Err place) 
 
 ended-not : (place : ℕ) (bytes : List ℕ) → NotPast place (ended_at place bytes)
 unfolding ended_at
-ended-not place bytes = either place (slice_index bytes (length bytes - 1) == 0) (Ok (take (length bytes - 1) bytes)) (Err place) tt (omega arith)
+ended-not place bytes = either place (slice_index bytes (length bytes - 1) == 0) (Ok (take (length bytes - 1) bytes)) (Err place) tt
+    (omega arith)
 
 text-not : (place : ℕ) (bytes : List ℕ) → NotPast place (text_of place bytes)
 unfolding text_of
@@ -59,12 +66,16 @@ text-not place bytes = either place (is_utf8 bytes) (Ok bytes) (Err place) tt (o
 name-not : (place : ℕ) (bytes : List ℕ) → NotPast place (name_at place bytes)
 unfolding name_at
 name-not place bytes =
-    then_ place (nul_at place (position (λ byte. byte == 0) bytes)) _ (nul-not place (position (λ byte. byte == 0) bytes)) (λ len. then_ place (text_of place (take len bytes)) _ (text-not place (take len bytes)) (λ name. tt))
+    then_ place (nul_at place (position (λ byte. byte == 0) bytes)) _ (nul-not place (position (λ byte. byte == 0) bytes))
+    (λ len. then_ place (text_of place (take len bytes)) _ (text-not place (take len bytes)) (λ name. tt))
 
 text-part-not : (place : ℕ) (bytes : List ℕ) → NotPast place (text_at place bytes)
 unfolding text_at
 text-part-not place bytes =
-    then_ place (length_at place 1 bytes) _ (length-not place 1 bytes) (λ n. then_ place (part_at place n.0 n.1) _ (part-not place n.0 n.1) (λ part. then_ place (ended_at place part.0) _ (ended-not place part.0) (λ content. then_ place (text_of place content) _ (text-not place content) (λ text. tt))))
+    then_ place (length_at place 1 bytes) _ (length-not place 1 bytes)
+    (λ n. then_ place (part_at place n.0 n.1) _ (part-not place n.0 n.1)
+    (λ part. then_ place (ended_at place part.0) _ (ended-not place part.0)
+    (λ content. then_ place (text_of place content) _ (text-not place content) (λ text. tt))))
 
 string-not : (place : ℕ) (bytes : List ℕ) → NotPast place (string_at place bytes)
 unfolding string_at
@@ -72,7 +83,8 @@ string-not place bytes = then_ place (text_at place bytes) _ (text-part-not plac
 
 binary-not : (place : ℕ) (bytes : List ℕ) → NotPast place (binary_at place bytes)
 unfolding binary_at
-binary-not place bytes = then_ place (length_at place 0 bytes) _ (length-not place 0 bytes) (λ n. then_ place (part_at place (n.0 + 1) n.1) _ (part-not place (n.0 + 1) n.1) (λ part. tt))
+binary-not place bytes = then_ place (length_at place 0 bytes) _ (length-not place 0 bytes)
+    (λ n. then_ place (part_at place (n.0 + 1) n.1) _ (part-not place (n.0 + 1) n.1) (λ part. tt))
 
 id-not : (place : ℕ) (bytes : List ℕ) → NotPast place (id_at place bytes)
 unfolding id_at
@@ -81,11 +93,13 @@ id-not place bytes = then_ place (part_at place 12 bytes) _ (part-not place 12 b
 bool-not : (place : ℕ) (bytes : List ℕ) → NotPast place (bool_at place bytes)
 unfolding bool_at
 bool-not place bytes =
-    then_ place (part_at place 1 bytes) _ (part-not place 1 bytes) (λ part. either place (slice_index part.0 0 == 0) _ _ tt (either place (slice_index part.0 0 == 1) _ (Err place) tt (omega arith)))
+    then_ place (part_at place 1 bytes) _ (part-not place 1 bytes)
+    (λ part. either place (slice_index part.0 0 == 0) _ _ tt (either place (slice_index part.0 0 == 1) _ (Err place) tt (omega arith)))
 
 regex-not : (place : ℕ) (bytes : List ℕ) → NotPast place (regex_at place bytes)
 unfolding regex_at
-regex-not place bytes = then_ place (name_at place bytes) _ (name-not place bytes) (λ pattern. then_ place (name_at place pattern.1) _ (name-not place pattern.1) (λ options. tt))
+regex-not place bytes = then_ place (name_at place bytes) _ (name-not place bytes)
+    (λ pattern. then_ place (name_at place pattern.1) _ (name-not place pattern.1) (λ options. tt))
 
 scalar-not : (place code : ℕ) (bytes : List ℕ) → NotPast place (scalar_at place code bytes)
 unfolding scalar_at
@@ -99,7 +113,8 @@ scalar-not place code bytes =
     (either place (code == 11) _ _ (regex-not place bytes)
     (either place (code == 16) (int_at place bytes) _ (then_ place (number_at place bytes) _ (number-not place bytes) (λ n. tt))
     (either place (code == 17) (stamp_at place bytes) _ (then_ place (long_at place bytes) _ (long-not place bytes) (λ n. tt))
-    (either place (code == 18) (int64_at place bytes) (Err place) (then_ place (long_at place bytes) _ (long-not place bytes) (λ n. tt)) (omega arith))))))))))
+    (either place (code == 18) (int64_at place bytes) (Err place) (then_ place (long_at place bytes) _ (long-not place bytes) (λ n. tt))
+    (omega arith))))))))))
 
 past-not : (place len : ℕ) (bytes : List ℕ) → NotPast place (past_at place len bytes)
 unfolding past_at
@@ -125,28 +140,34 @@ foreign-not place code bytes =
     (either place (code == 19) _ _ (past-not place 16 bytes)
     (either place (code == 127) (Ok bytes) _ tt (either place (code == 255) (Ok bytes) (Err place) tt (omega arith)))))))))
 
-module _ (document : ℕ → List ℕ → Result (Doc × List Foreign × List ℕ) ℕ) (array : ℕ → List ℕ → Result (List Value × List Foreign × List ℕ) ℕ) (docs : (end : ℕ) (bytes : List ℕ) → NotPast end (document end bytes)) (arrays : (end : ℕ) (bytes : List ℕ) → NotPast end (array end bytes)) where
+module _ (document : ℕ → List ℕ → Result (Doc × List Foreign × List ℕ) ℕ) (array : ℕ → List ℕ
+    → Result (List Value × List Foreign × List ℕ) ℕ) (docs : (end : ℕ) (bytes : List ℕ)
+    → NotPast end (document end bytes)) (arrays : (end : ℕ) (bytes : List ℕ) → NotPast end (array end bytes)) where
   value-not : (end place code : ℕ) (bytes : List ℕ) → place ≤ end → NotPast end (value_at document array end place code bytes)
   unfolding value_at
   value-not end place code bytes within =
       either end (code == 3) _ _ (then_ end (document end bytes) _ (docs end bytes) (λ doc. tt))
       (either end (code == 4) _ _ (then_ end (array end bytes) _ (arrays end bytes) (λ items. tt))
-      (either end (is_foreign code) _ _ (then_ end (foreign_at place code bytes) _ (later place end (foreign_at place code bytes) within (foreign-not place code bytes)) (λ rest. tt))
-      (then_ end (scalar_at place code bytes) _ (later place end (scalar_at place code bytes) within (scalar-not place code bytes)) (λ it. tt))))
+      (either end (is_foreign code) _ _ (then_ end (foreign_at place code bytes) _
+      (later place end (foreign_at place code bytes) within (foreign-not place code bytes)) (λ rest. tt))
+      (then_ end (scalar_at place code bytes) _ (later place end (scalar_at place code bytes) within (scalar-not place code bytes))
+      (λ it. tt))))
 
   element-not : (end code : ℕ) (bytes : List ℕ) → NotPast end (element_at document array end code bytes)
   unfolding element_at
   element-not end code bytes =
       let place = end - (length bytes + 1) in
       let within : place ≤ end = omega arith in
-      then_ end (name_at place bytes) _ (later place end (name_at place bytes) within (name-not place bytes)) (λ name. then_ end (value_at document array end place code name.1) _ (value-not end place code name.1 within) (λ v. tt))
+      then_ end (name_at place bytes) _ (later place end (name_at place bytes) within (name-not place bytes))
+      (λ name. then_ end (value_at document array end place code name.1) _ (value-not end place code name.1 within) (λ v. tt))
 
   elements-not : (most end : ℕ) (bytes : List ℕ) → NotPast end (elements_at document array most end bytes)
   unfolding elements_at
   elements-not zero end bytes = omega arith
   elements-not (suc most) end [] = tt
   elements-not (suc most) end (code ∷ bytes) =
-      then_ end (element_at document array end code bytes) _ (element-not end code bytes) (λ first. then_ end (elements_at document array most end first.1) _ (elements-not most end first.1) (λ others. tt))
+      then_ end (element_at document array end code bytes) _ (element-not end code bytes)
+      (λ first. then_ end (elements_at document array most end first.1) _ (elements-not most end first.1) (λ others. tt))
 
   enclosed-not : (end : ℕ) (bytes : List ℕ) → NotPast end (enclosed_at document array end bytes)
   unfolding enclosed_at
@@ -154,13 +175,17 @@ module _ (document : ℕ → List ℕ → Result (Doc × List Foreign × List �
       let place = end - length bytes in
       let within : place ≤ end = omega arith in
       then_ end (length_at place 5 bytes) _ (later place end (length_at place 5 bytes) within (length-not place 5 bytes)) (λ n.
-      then_ end (part_at place (n.0 - 4) n.1) _ (later place end (part_at place (n.0 - 4) n.1) within (part-not place (n.0 - 4) n.1)) (λ part.
+      then_ end (part_at place (n.0 - 4) n.1) _ (later place end (part_at place (n.0 - 4) n.1) within (part-not place (n.0 - 4) n.1))
+      (λ part.
       let inner = end - (length part.1 + 1) in
       let inside = take (length part.0 - 1) part.0 in
-      then_ end (elements_at document array (length inside + 1) inner inside) _ (later inner end (elements_at document array (length inside + 1) inner inside) (omega arith) (elements-not (length inside + 1) inner inside)) (λ found.
+      then_ end (elements_at document array (length inside + 1) inner inside) _
+      (later inner end (elements_at document array (length inside + 1) inner inside) (omega arith)
+      (elements-not (length inside + 1) inner inside)) (λ found.
       then_ end (ended_at place part.0) _ (later place end (ended_at place part.0) within (ended-not place part.0)) (λ it. tt))))
 
-within-not : (levels : ℕ) → ((end : ℕ) (bytes : List ℕ) → NotPast end (document_at levels end bytes)) × ((end : ℕ) (bytes : List ℕ) → NotPast end (array_at levels end bytes))
+within-not : (levels : ℕ) → ((end : ℕ) (bytes : List ℕ) → NotPast end (document_at levels end bytes))
+    × ((end : ℕ) (bytes : List ℕ) → NotPast end (array_at levels end bytes))
 unfolding document_at array_at
 within-not zero = (λ end bytes. omega arith, λ end bytes. omega arith)
 within-not (suc levels) =

@@ -1,5 +1,3 @@
-pub mod Steps
-pub mod Bytes
 pub mod Texts
 pub mod Elements
 pub mod Enclosed
@@ -11,7 +9,6 @@ pub mod Passed
 pub mod Values
 pub mod Documents
 pub mod Answered
-pub mod Helds
 pub mod Sizes
 pub mod Written
 pub mod Writable

@@ -4,7 +4,7 @@ use Rattle.std.specs.Prelude.{Result, Ok, Err}
 use Rattle.std.specs.Str.{IsUtf8, is_utf8}
 use Rattle.std.proofs.lemmas.Str.{IsUtf8-from_is_utf8, is_utf8-from_IsUtf8}
 use Rattle.bson_wire.specs.Reading.{text_of}
-use Rattle.bson_wire.proofs.Steps.{when_ok, same_Ok}
+use Rattle.std_words.proofs.Faults.{when_ok, same_Ok}
 
 -- a text is read as itself
 pub text_again : (place : ℕ) (text : List ℕ) → IsUtf8 text → text_of place text ≡ Ok text
@@ -20,7 +20,8 @@ text_takes place bytes text is =
     (same, subst IsUtf8 same (IsUtf8-from_is_utf8 bytes test.0))
 
 -- a test that fails is a fault
-unmet : {A : Type 0} (test : Bool) (place : ℕ) (found : A) → (test ≡ true → ⊥) → ◌≡◌ {A = Result A ℕ} (cond test (Ok found) (Err place)) (Err place)
+unmet : {A : Type 0} (test : Bool) (place : ℕ) (found : A) → (test ≡ true → ⊥)
+    → ◌≡◌ {A = Result A ℕ} (cond test (Ok found) (Err place)) (Err place)
 unmet true place found bad = absurd (bad refl)
 unmet false place found bad = refl
 

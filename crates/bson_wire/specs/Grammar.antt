@@ -1,5 +1,6 @@
 -- Which bytes spell which document, and which elements in them are foreign: BSON 1.1, whose other types are known and left out.
-use Rattle.std.specs.Prelude.{ℕ, ℤ, zero, suc, ◌≡◌, ◌≢◌, ◌+◌, ◌<◌, ◌≤◌, ◌^◌, ◌⊎◌, Option, None, Some, List, [], ◌∷◌, ◌++◌, length, map, All, FitsSigned}
+use Rattle.std.specs.Prelude.{ℕ, ℤ, zero, suc, ◌≡◌, ◌≢◌, ◌+◌, ◌<◌, ◌≤◌, ◌^◌, ◌⊎◌, Option, None, Some, List, [], ◌∷◌, ◌++◌, length, map, All}
+use Rattle.std.specs.Prelude.{FitsSigned}
 use Rattle.std.specs.Int.{w32, w64, cast_unsigned}
 use Rattle.std.specs.List.{flat_map}
 use Rattle.std.specs.Str.{IsUtf8}
@@ -9,7 +10,16 @@ use Rattle.bson_values.specs.declared.value.Regex.{Regex}
 use Rattle.bson_values.specs.declared.value.Value.{Value, out-Value}
 use Rattle.bson_values.specs.declared.value.Value.TheOpen.{Value-F}
 use Rattle.bson_wire.specs.declared.foreign.Foreign.{Foreign}
-use Rattle.bson_wire.specs.Spelling.{int32, int64, cstring, string, bool, binary}
+use Rattle.bson_spelling.specs.declared.form.Form.TheVariants.{Bson}
+use Rattle.bson_spelling.specs.Spelling.{int32, int64, cstring, string, bool, binary}
+
+-- documents and arrays may stand in one another so deep
+abbrev pub most_levels : ℕ
+most_levels = 128
+
+-- an int32 says lengths below it
+abbrev pub length_limit : ℕ
+length_limit = 2 ^ 31
 
 -- UTF-8 with no U+0000
 pub record IsName (name : List ℕ) : Type 0 where
@@ -19,13 +29,13 @@ pub record IsName (name : List ℕ) : Type 0 where
 -- UTF-8 behind a positive int32, which counts its 00 byte too
 pub record IsString (bytes text : List ℕ) : Type 0 where
   pub utf8 : IsUtf8 text
-  pub small : length text + 1 < 2 ^ 31
-  pub whole : bytes ≡ string text
+  pub small : length text + 1 < length_limit
+  pub whole : bytes ≡ string Bson text
 
 -- an int32 that is not negative, a byte, and as many bytes as the int32 says
 pub record IsBinary (bytes : List ℕ) (it : Binary) : Type 0 where
-  pub small : length it.bytes < 2 ^ 31
-  pub whole : bytes ≡ binary it.subtype it.bytes
+  pub small : length it.bytes < length_limit
+  pub whole : bytes ≡ binary Bson it.subtype it.bytes
 
 -- two names, each ended by a 00 byte
 pub record IsRegex (bytes : List ℕ) (regex : Regex) : Type 0 where
@@ -53,15 +63,15 @@ pub record IsPointer (bytes : List ℕ) : Type 0 where
   pub text : List ℕ
   pub id : List ℕ
   pub utf8 : IsUtf8 text
-  pub small : length text + 1 < 2 ^ 31
+  pub small : length text + 1 < length_limit
   pub twelve : length id ≡ 12
-  pub whole : bytes ≡ string text ++ id
+  pub whole : bytes ≡ string Bson text ++ id
 
 -- an int32 that equals the length of all the bytes, which are at least 14
 pub record IsScoped (bytes : List ℕ) : Type 0 where
   pub inside : List ℕ
   pub least : 14 ≤ length bytes
-  pub small : length bytes < 2 ^ 31
+  pub small : length bytes < length_limit
   pub whole : bytes ≡ int32 (length bytes) ++ inside
 
 -- behind this type byte, these bytes spell a value of a foreign type: double, undefined, DBPointer, JavaScript code, symbol,
@@ -151,7 +161,7 @@ module _ (IsDocument : ℕ → List ℕ → List (Pair Value) → List Foreign �
   -- an int32 that equals the length of all the bytes, elements, and a 00 byte
   pub record Encloses (place : ℕ) (bytes : List ℕ) (elements : List Element) : Type 0 where
     pub inside : List ℕ
-    pub small : length bytes < 2 ^ 31
+    pub small : length bytes < length_limit
     pub whole : bytes ≡ int32 (length bytes) ++ inside ++ 0 ∷ []
     pub are : AreElements (place + 4) inside elements
 
@@ -162,7 +172,7 @@ spells_within (suc levels) place bytes pairs foreign =
     (elements : List Element) × Encloses (spells_within levels) place bytes elements
     × (kept elements ≡ pairs) × (foreigns elements ≡ foreign)
 
--- the bytes spell the document, in at most 128 levels, and the foreign elements, which are not in it;
+-- the bytes spell the document, in at most so many levels, and the foreign elements, which are not in it;
 -- places are counted from the first byte
 abbrev pub spells : List ℕ → List (Pair Value) → List Foreign → Type 0
-spells bytes doc foreign = spells_within 128 0 bytes doc foreign
+spells bytes doc foreign = spells_within most_levels 0 bytes doc foreign

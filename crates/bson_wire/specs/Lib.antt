@@ -1,5 +1,4 @@
-pub mod Spelling
+pub use Rattle.bson_spelling.specs.Spelling
 pub mod Grammar
 pub mod Reading
-pub mod Appended
 pub mod Spellable

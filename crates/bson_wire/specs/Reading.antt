@@ -1,10 +1,12 @@
 -- What stands at the front of some bytes, read from the left, or the place of the first fault there.
 -- `place` is the place that a fault of what is read has; `end` is the place where the bytes end.
 -- proofs/Documents.antt ties it to the grammar.
-use Rattle.std.specs.Prelude.{ℕ, zero, suc, ◌≡◌, ◌<◌, ◌+◌, ◌-◌, ◌==◌, ◌||◌, nat_lt, true, false, if◌then◌else◌, List, [], ◌∷◌, length, take, drop, slice_index, Bool, Option, None, Some, Result, Ok, Err}
+use Rattle.std.specs.Prelude.{ℕ, zero, suc, ◌≡◌, ◌<◌, ◌+◌, ◌-◌, ◌==◌, ◌||◌, nat_lt, true, false, if◌then◌else◌, List, [], ◌∷◌, length, take}
+use Rattle.std.specs.Prelude.{drop, slice_index, Bool, Option, None, Some, Result, Ok, Err}
 use Rattle.std.specs.Int.{w32, w64, cast_signed}
 use Rattle.std.specs.List.{position}
 use Rattle.std.specs.Str.{is_utf8}
+use Rattle.std_words.specs.Steps.{◌>>=◌, fault_of}
 use Rattle.byteorder.specs.Endian.{little_number}
 use Rattle.bson_values.specs.declared.pairs.Pair.{Pair}
 use Rattle.bson_values.specs.declared.value.Value.{Value}
@@ -12,7 +14,7 @@ use Rattle.bson_values.specs.declared.value.Value.TheVariants as value
 use Rattle.bson_wire.specs.declared.foreign.Foreign.{Foreign}
 use Rattle.bson_wire.specs.declared.refused.ReadRefused.{ReadRefused}
 use Rattle.bson_wire.specs.declared.refused.ReadRefused.TheVariants.{Malformed, NoMemory}
-use Rattle.bson_wire.specs.Grammar.{Element, kept, foreigns, values}
+use Rattle.bson_wire.specs.Grammar.{most_levels, Element, kept, foreigns, values}
 
 -- the fault is at that place, unless memory ran out
 abbrev pub Fails : {Y : Type 0} → ReadRefused → Result Y ℕ → Type 0
@@ -23,12 +25,6 @@ Fails (Malformed place) found = found ≡ Err place
 abbrev pub Gives : {X Y : Type 0} → (X → Y) → Result X ReadRefused → Result Y ℕ → Type 0
 Gives view (Ok value) found = found ≡ Ok (view value)
 Gives view (Err refused) found = Fails refused found
-
--- a step that may find a fault, and the next one on what it found
-infixl 10 ◌>>=◌
-abbrev pub ◌>>=◌ : {A B E : Type 0} → Result A E → (A → Result B E) → Result B E
-(Err fault) >>= next = Err fault
-(Ok found) >>= next = next found
 
 -- four bytes as a number, and the bytes after them
 unfoldable pub number_at : ℕ → List ℕ → Result (ℕ × List ℕ) ℕ
@@ -164,7 +160,8 @@ foreign_at place code bytes =
     else if code == 255 then Ok bytes
     else Err place
 
-module _ (document : ℕ → List ℕ → Result (List (Pair Value) × List Foreign × List ℕ) ℕ) (array : ℕ → List ℕ → Result (List Value × List Foreign × List ℕ) ℕ) where
+module _ (document : ℕ → List ℕ → Result (List (Pair Value) × List Foreign × List ℕ) ℕ) (array : ℕ → List ℕ
+    → Result (List Value × List Foreign × List ℕ) ℕ) where
   -- by the type byte a document, an array, a foreign value, which is passed over, or a value that holds none
   unfoldable pub value_at : ℕ → ℕ → ℕ → List ℕ → Result (Option Value × List Foreign × List ℕ) ℕ
   value_at end place code bytes =
@@ -218,11 +215,6 @@ abbrev pub first : List Foreign → Option Foreign
 first [] = None
 first (it ∷ more) = Some it
 
--- the one found before, or the one found now
-abbrev pub earlier : Option Foreign → Option Foreign → Option Foreign
-earlier None now = now
-earlier (Some it) now = Some it
-
 -- if there is one, it stands before that place
 abbrev pub Before : ℕ → Option Foreign → Type 0
 Before end None = Unit {0}
@@ -244,14 +236,9 @@ pairs_told found = found >>= λ it. Ok (kept it, first (foreigns it))
 abbrev pub items_told : Result (List Element) ℕ → Result (List Value × Option Foreign) ℕ
 items_told found = found >>= λ it. Ok (values (kept it), first (foreigns it))
 
--- the place of a fault, where there is one
-abbrev pub fault_of : {A : Type 0} → Result A ℕ → Option ℕ
-fault_of (Ok found) = None
-fault_of (Err place) = Some place
-
 -- the place of the first fault of what should be a document at the front; none where one is there
 abbrev pub fault : List ℕ → Option ℕ
-fault bytes = fault_of (document_at 128 (length bytes) bytes)
+fault bytes = fault_of (document_at most_levels (length bytes) bytes)
 
 -- malformed bytes are told by that place
 abbrev pub Tells : ReadRefused → List ℕ → Type 0

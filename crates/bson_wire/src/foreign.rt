@@ -1,5 +1,5 @@
-ghost use Rattle.std.specs.Prelude.{◌≡◌, ◌≤◌, ℕ, length, IfOk};
-ghost use Rattle.bson_wire.specs.Reading.{Gives, is_foreign, past_at, past_text_at, past_scoped_at, foreign_at, earlier, Before};
+ghost use Rattle.std.specs.Prelude.{◌≡◌, ◌≤◌, length, IfOk};
+ghost use Rattle.bson_wire.specs.Reading.{Gives, is_foreign, past_at, past_text_at, past_scoped_at, foreign_at};
 
 use crate::refused::ReadRefused;
 use crate::scalars::{length, part, text_part};
@@ -81,16 +81,5 @@ pub(crate) fn past_foreign(code: u8, bytes: &[u8], place: u64) -> Result<&[u8], 
         type_byte!(maxKey) => Ok(bytes),
         type_byte!(minKey) => Ok(bytes),
         _ => Err(ReadRefused::Malformed(place)),
-    }
-}
-
-/// The earlier of two, where `now` was found behind `before`.
-pub(crate) fn earlier(before: Option<Foreign>, now: Option<Foreign>) -> Option<Foreign>
-    ensures value { result ≡ earlier before now }
-    ensures near { (end : ℕ) → Before end before → Before end now → Before end result }
-{
-    match before {
-        Some(foreign) => Some(foreign),
-        None => now,
     }
 }

@@ -1,14 +1,12 @@
 //! Wire: the bytes of documents, as BSON 1.1 says.
 #![tactic(auto)]
 
-mod counting;
 mod foreign;
 mod laws;
 mod reader;
 mod refused;
 mod scalars;
-mod writer;
-mod writing_in;
+mod writing;
 
 pub use foreign::Foreign;
 pub use laws::{
@@ -18,12 +16,7 @@ pub use laws::{
 pub use reader::{Front, read};
 pub use refused::ReadRefused;
 pub use scalars::name;
-pub use writer::write;
-pub use writing_in::write_in;
+pub use writing::{write, write_in};
 
-#[cfg(test)]
-mod passing;
-#[cfg(test)]
-mod places;
 #[cfg(test)]
 mod tests;

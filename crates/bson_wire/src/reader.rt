@@ -4,9 +4,10 @@ ghost use Rattle.bson_values.specs.declared.pairs.Pair.{Pair as Named};
 ghost use Rattle.bson_values.specs.declared.value.Value.{Value as Held};
 ghost use Rattle.bson_wire.specs.declared.foreign.Foreign.{Foreign as Other};
 ghost use Rattle.bson_wire.specs.Grammar.{pair_of, values, spells};
-ghost use Rattle.bson_wire.specs.Reading.{Gives, Tells, value_at, element_at, all_at, document_at, array_at, first, Before, with_first, element_told, pairs_told, items_told};
+ghost use Rattle.bson_wire.specs.Reading.{Gives, Tells, value_at, element_at, all_at, document_at, array_at, first, Before, with_first};
+ghost use Rattle.bson_wire.specs.Reading.{element_told, pairs_told, items_told};
 
-use crate::foreign::{Foreign, earlier, is_foreign, past_foreign};
+use crate::foreign::{Foreign, is_foreign, past_foreign};
 use crate::refused::ReadRefused;
 use crate::scalars::{ended, length, name, part, scalar};
 use bson_values::{Document, List, Text, Value, head, tail};
@@ -138,7 +139,7 @@ fn elements(
             Err(refused) => return Err(refused),
         };
         push(alloc, &mut doc, name, value)?;
-        foreign = earlier(foreign, inner);
+        foreign = foreign.or(inner);
         rest = after;
     }
     Ok((doc, foreign))
@@ -167,7 +168,7 @@ fn items(
             Err(refused) => return Err(refused),
         };
         push_item(&mut items, value)?;
-        foreign = earlier(foreign, inner);
+        foreign = foreign.or(inner);
         rest = after;
     }
     Ok((items, foreign))

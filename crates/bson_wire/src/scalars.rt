@@ -1,5 +1,6 @@
 ghost use Rattle.std.specs.Prelude.{◌≡◌, ◌≤◌, ◌<◌, ◌==◌, ◌+◌, length, IfSome, IfOk, IfErr, position};
-ghost use Rattle.bson_wire.specs.Reading.{Gives, number_at, long_at, length_at, part_at, ended_at, text_of, nul_at, name_at, text_at, string_at, binary_at, id_at, bool_at, regex_at, scalar_at};
+ghost use Rattle.bson_wire.specs.Reading.{Gives, number_at, long_at, length_at, part_at, ended_at, text_of, nul_at, name_at, text_at};
+ghost use Rattle.bson_wire.specs.Reading.{string_at, binary_at, id_at, bool_at, regex_at, scalar_at};
 
 use crate::refused::ReadRefused;
 use bson_values::{Binary, Bytes, Regex, Text, Value, head, tail};

@@ -6,9 +6,9 @@ use Rattle.std.proofs.lemmas.List.{append-nil}
 use Rattle.bson_values.specs.declared.pairs.Pair.{Pair}
 use Rattle.bson_values.specs.declared.value.Value.{Value}
 use Rattle.bson_wire.specs.declared.foreign.Foreign.{Foreign}
-use Rattle.bson_wire.proofs.Bytes.{IsBytes, IsBytes-rest}
-use Rattle.bson_wire.proofs.Steps.{same_Ok, bind_ok}
-use Rattle.bson_wire.specs.Reading.{◌>>=◌}
+use Rattle.std_words.proofs.Bytes.{IsBytes, IsBytes-rest}
+use Rattle.std_words.proofs.Faults.{same_Ok, bind_ok}
+use Rattle.std_words.specs.Steps.{◌>>=◌}
 use Rattle.op_msg.specs.Limits.{MOST_MESSAGE}
 use Rattle.op_msg.specs.declared.message.Sequence.{Sequence}
 use Rattle.op_msg.specs.declared.message.Message.{Message}

@@ -7,7 +7,8 @@ use Rattle.bson_wire.specs.declared.foreign.Foreign.{Foreign}
 use Rattle.bson_wire.specs.Grammar.{spells, spells_within}
 use Rattle.bson_wire.specs.declared.refused.ReadRefused.{ReadRefused}
 use Rattle.bson_wire.specs.declared.refused.ReadRefused.TheVariants.{Malformed, NoMemory}
-use Rattle.bson_wire.specs.Reading.{document_at, first, fault_of, Tells}
+use Rattle.std_words.specs.Steps.{fault_of}
+use Rattle.bson_wire.specs.Reading.{document_at, first, Tells}
 use Rattle.bson_wire.proofs.Documents.{document_again}
 use Rattle.bson_wire.proofs.Bounds.{NotPast, document-not}
 use Rattle.bson_wire.proofs.Values.{Doc}

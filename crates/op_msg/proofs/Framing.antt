@@ -5,8 +5,8 @@ use Rattle.std.specs.Prelude.{Option, None, Some, Result, Ok, Err}
 use Rattle.std.specs.List.{flat_map}
 use Rattle.std.proofs.lemmas.Bool.{cases_lt, le-ltb}
 use Rattle.std.proofs.lemmas.List.{append-nil, drop_at}
-use Rattle.bson_wire.proofs.Bytes.{IsBytes}
-use Rattle.bson_wire.proofs.Steps.{same_Ok}
+use Rattle.std_words.proofs.Bytes.{IsBytes}
+use Rattle.std_words.proofs.Faults.{same_Ok}
 use Rattle.op_msg.specs.declared.message.Message.{Message}
 use Rattle.op_msg.specs.Stream.{message, in_order, frames, BeginsNone, TakenFrom}
 use Rattle.op_msg.specs.Reading.{Fault, stated, early, short, message_at, fault}

@@ -7,7 +7,7 @@ use Rattle.std.proofs.lemmas.Bool.{ltb-false, lt-ltb, le-ltb, eqb-true}
 use Rattle.std.proofs.lemmas.List.{take-append-drop, take-append-le, drop-append-le, take_at, length-take-le}
 use Rattle.byteorder.specs.Endian.{little_number}
 use Rattle.byteorder.specs.Numbers.{little_from-append}
-use Rattle.bson_wire.proofs.Bytes.{IsBytes, IsBytes-front}
+use Rattle.std_words.proofs.Bytes.{IsBytes, IsBytes-front}
 use Rattle.op_msg.specs.Limits.{MOST_MESSAGE}
 use Rattle.op_msg.specs.declared.message.Message.{Message}
 use Rattle.op_msg.specs.declared.message.BadKind.TheVariants.{Length, OpCode}

@@ -5,9 +5,9 @@ use Rattle.std.specs.Prelude.{Option, None, Some, Result, Ok, Err}
 use Rattle.std.specs.Option.{option_or}
 use Rattle.std.proofs.lemmas.List.{append-nil}
 use Rattle.bson_wire.specs.declared.foreign.Foreign.{Foreign}
-use Rattle.bson_wire.proofs.Bytes.{IsBytes, IsBytes-rest}
-use Rattle.bson_wire.proofs.Steps.{bind_ok, at_found}
-use Rattle.bson_wire.specs.Reading.{◌>>=◌}
+use Rattle.std_words.proofs.Bytes.{IsBytes, IsBytes-rest}
+use Rattle.std_words.proofs.Faults.{bind_ok, at_found}
+use Rattle.std_words.specs.Steps.{◌>>=◌}
 use Rattle.op_msg.specs.Stream.{AreInOrder}
 use Rattle.op_msg.specs.Reading.{Fault, Found, many_at}
 use Rattle.op_msg.specs.Front.{Fails}

@@ -9,8 +9,8 @@ use Rattle.std.proofs.lemmas.List.{take-append-drop, drop-drop, drop_more}
 use Rattle.byteorder.specs.Endian.{little_number}
 use Rattle.byteorder.specs.Numbers.{little_from-lt, little_number-reads_back}
 use Rattle.bson_wire.specs.Spelling.{int32}
-use Rattle.bson_wire.proofs.Bytes.{IsBytes, IsBytes-rest}
-use Rattle.bson_wire.proofs.Steps.{same_Ok, bind_ok, unless_ok}
+use Rattle.std_words.proofs.Bytes.{IsBytes, IsBytes-rest}
+use Rattle.std_words.proofs.Faults.{same_Ok, bind_ok, unless_ok}
 use Rattle.op_msg.specs.declared.message.Message.{Message}
 use Rattle.op_msg.specs.declared.message.BadKind.TheVariants.{Flags, Checksum, Section}
 use Rattle.op_msg.specs.Stream.{InRange, AreSections, message}

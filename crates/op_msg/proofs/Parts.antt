@@ -10,13 +10,14 @@ use Rattle.byteorder.specs.Numbers.{little_from-append, little_number-reads_back
 use Rattle.bson_wire.specs.Spelling.{int32, cstring}
 use Rattle.bson_wire.specs.declared.foreign.Foreign.{Foreign}
 use Rattle.bson_wire.specs.Grammar.{IsName}
-use Rattle.bson_wire.specs.Reading.{◌>>=◌, document_at, name_at, number_at, first}
-use Rattle.bson_wire.proofs.Bytes.{IsBytes, IsBytes-front, IsBytes-rest}
+use Rattle.std_words.specs.Steps.{◌>>=◌}
+use Rattle.bson_wire.specs.Reading.{document_at, name_at, number_at, first}
+use Rattle.std_words.proofs.Bytes.{IsBytes, IsBytes-front, IsBytes-rest}
 use Rattle.bson_wire.proofs.Documents.{document_takes, document_again}
 use Rattle.bson_wire.proofs.Names.{name_takes, name_again}
 use Rattle.bson_wire.proofs.Numbers.{number_takes}
 use Rattle.bson_wire.proofs.Values.{Doc}
-use Rattle.bson_wire.proofs.Steps.{same_Ok, bind_ok, unless_ok, when_ok, at_found}
+use Rattle.std_words.proofs.Faults.{same_Ok, bind_ok, unless_ok, when_ok, at_found}
 use Rattle.op_msg.specs.Limits.{MOST_MESSAGE}
 use Rattle.op_msg.specs.declared.message.Sequence.{Sequence}
 use Rattle.op_msg.specs.declared.message.BadKind.TheVariants.{Section, Body}

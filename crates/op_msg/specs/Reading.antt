@@ -7,8 +7,8 @@ use Rattle.byteorder.specs.Endian.{little_number}
 use Rattle.bson_values.specs.declared.pairs.Pair.{Pair}
 use Rattle.bson_values.specs.declared.value.Value.{Value}
 use Rattle.bson_wire.specs.declared.foreign.Foreign.{Foreign}
-use Rattle.bson_wire.specs.Reading.{◌>>=◌, document_at, name_at, first}
-use Rattle.std_words.specs.Steps.{fault_of}
+use Rattle.std_words.specs.Steps.{◌>>=◌, fault_of}
+use Rattle.bson_wire.specs.Reading.{document_at, name_at, first}
 use Rattle.op_msg.specs.Limits.{LEAST_MESSAGE, MOST_MESSAGE, MOST_NESTED, BEFORE_SECTIONS, OP_MSG}
 use Rattle.op_msg.specs.Stream.{moved}
 use Rattle.op_msg.specs.declared.message.Message.{Message}

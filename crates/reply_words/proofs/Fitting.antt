@@ -9,6 +9,7 @@ use Rattle.bson_values.specs.declared.value.Value.{Value}
 use Rattle.bson_values.specs.declared.value.Value.TheVariants as value
 use Rattle.bson_values.specs.Measures.{items_size, value_size}
 use Rattle.bson_values.proofs.Totals.{digits_few, size_items}
+use Rattle.bson_spelling.specs.declared.form.Form.TheVariants.{Bson}
 use Rattle.bson_wire.specs.Spelling.{spell, held}
 use Rattle.bson_wire.proofs.Measured.{value_measured, measured}
 use Rattle.bson_wire.proofs.Sizes.{spell-push}
@@ -21,7 +22,7 @@ use Rattle.reply_words.specs.declared.replies.Reply.TheVariants.{Done, Error, In
 use Rattle.reply_words.specs.Replies.{int, long, text, document, documents, named, sentence, item_error, namespace, cursor, document_of, total_size, fit_a_batch}
 use Rattle.reply_words.specs.Small.{IsSmall}
 
-size-Arr : (items : List Value) → length (held (value.Arr items)).1 ≡ items_size 0 (map value_size items) + 5
+size-Arr : (items : List Value) → length (held Bson (value.Arr items)).1 ≡ items_size 0 (map value_size items) + 5
 size-Arr items = sym (value_measured (value.Arr items)) ∙ size_items items
 
 named_short : (name : List ℕ) → length name ≤ 50 → length (named name) ≤ 60

@@ -10,5 +10,6 @@ compare_arrays-returns t c =
 
 pub compare_documents-returns : goal.compare_documents-returns
 compare_documents-returns t c =
-    both_ended (pair_cmp rank_of compared) _ _ _ _ c.loop-place.place _ _ _ c.as_slice-pair-items.ensures c.as_slice-others.ensures (omega arith)
+    both_ended (pair_cmp rank_of compared) _ _ _ _ c.loop-place.place _ _ _ c.as_slice-pair-items.ensures c.as_slice-others.ensures
+    (omega arith)
     c.loop-place.invariant.within c.loop-place.invariant.left c.len.ensures c.len-2.ensures c.cmp.ensures

@@ -13,5 +13,6 @@ invariant-compare_arrays-loop-place l = record {
 abbrev pub invariant-compare_documents-loop-place : goal.invariant-compare_documents-loop-place
 invariant-compare_documents-loop-place l = record {
   within : l.place ≤ length l.others;
-  left : slice_cmp (pair_cmp rank_of compared) (drop l.place l.pair-items) (drop l.place l.others) ≡ slice_cmp (pair_cmp rank_of compared) l.pair-items l.others;
+  left : slice_cmp (pair_cmp rank_of compared) (drop l.place l.pair-items) (drop l.place l.others)
+      ≡ slice_cmp (pair_cmp rank_of compared) l.pair-items l.others;
 }

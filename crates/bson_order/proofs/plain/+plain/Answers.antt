@@ -44,14 +44,16 @@ is_plain-returns-in-Long t c = plain_by _ (Value-F.Long _) true (ap out-Value c.
 
 pub is_plain_array-loop-item-preserved : goal.is_plain_array-loop-item-preserved
 is_plain_array-loop-item-preserved t c =
-    all_more IsPlain c.as_slice-item-items.result.now c.loop-item.item-index c.item-item.result c.item-item.is c.loop-item-test.true c.loop-item.invariant (c.is_plain.ensures.0 c.if-not-is_plain.false)
+    all_more IsPlain c.as_slice-item-items.result.now c.loop-item.item-index c.item-item.result c.item-item.is c.loop-item-test.true
+    c.loop-item.invariant (c.is_plain.ensures.0 c.if-not-is_plain.false)
 
 pub is_plain_array-returns : goal.is_plain_array-returns
 is_plain_array-returns t c = all_done IsPlain _ _ _ c.as_slice-item-items.ensures c.loop-item-test.false c.loop-item.invariant
 
 pub is_plain_document-loop-pair-preserved : goal.is_plain_document-loop-pair-preserved
 is_plain_document-loop-pair-preserved t c =
-    all_more IsPlainPair c.as_slice-pair-items.result.now c.loop-pair.pair-index c.pair-item.result c.pair-item.is c.loop-pair-test.true c.loop-pair.invariant
+    all_more IsPlainPair c.as_slice-pair-items.result.now c.loop-pair.pair-index c.pair-item.result c.pair-item.is c.loop-pair-test.true
+    c.loop-pair.invariant
     (rw c.as_str.ensures at (c.has_no_nul.ensures.0 c.if-not-has_no_nul.false), c.is_plain.ensures.0 c.if-not-is_plain.false)
 
 pub is_plain_document-returns : goal.is_plain_document-returns

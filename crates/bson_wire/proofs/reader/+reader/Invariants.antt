@@ -25,13 +25,15 @@ decreases-items l = 4 * l.levels + 3
 
 -- what was read so far and what stands in the rest are all elements
 abbrev pub invariant-elements-loop-rest : goal.invariant-elements-loop-rest
-invariant-elements-loop-rest l = Goes (document_at l.levels) (array_at l.levels) l.end kept pair_of kept-more l.bytes l.rest l.doc l.foreign × Before l.end l.foreign
+invariant-elements-loop-rest l = Goes (document_at l.levels) (array_at l.levels) l.end kept pair_of kept-more l.bytes l.rest l.doc l.foreign
+    × Before l.end l.foreign
 
 abbrev pub decreases-elements-loop-rest : goal.decreases-elements-loop-rest
 decreases-elements-loop-rest l = length l.rest
 
 abbrev pub invariant-items-loop-rest : goal.invariant-items-loop-rest
-invariant-items-loop-rest l = Goes (document_at l.levels) (array_at l.levels) l.end (λ elements. values (kept elements)) (λ name value. values (pair_of [] value)) items-more l.bytes l.rest l.items l.foreign × Before l.end l.foreign
+invariant-items-loop-rest l = Goes (document_at l.levels) (array_at l.levels) l.end (λ elements. values (kept elements))
+    (λ name value. values (pair_of [] value)) items-more l.bytes l.rest l.items l.foreign × Before l.end l.foreign
 
 abbrev pub decreases-items-loop-rest : goal.decreases-items-loop-rest
 decreases-items-loop-rest l = length l.rest

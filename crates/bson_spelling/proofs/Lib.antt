@@ -1,0 +1,2 @@
+pub mod Helds
+pub mod Sizes

@@ -1,6 +1,0 @@
--- What a writer that gave up leaves.
-use Rattle.std.specs.Prelude.{ℕ, ◌≡◌, ◌++◌, List}
-
--- new is old with something behind it
-abbrev pub Extends : List ℕ → List ℕ → Type 0
-Extends old new = (more : List ℕ) × (new ≡ old ++ more)

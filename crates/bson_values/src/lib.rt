@@ -4,27 +4,28 @@
 
 mod bytes;
 mod copying;
+mod index;
 mod list;
 mod measures;
 mod memory;
 mod pairs;
-mod pieces;
 mod room;
 mod space;
 mod storing;
 mod text;
 mod value;
+mod wide;
 
 pub use bytes::Bytes;
 pub use list::List;
 pub use memory::NoMemory;
 pub use pairs::{Pair, Pairs};
-pub use pieces::{head, tail};
 pub use room::Room;
 pub use space::Space;
 pub use storing::{MOST_BYTES, MOST_LEVELS, Unstorable, storable};
 pub use text::Text;
 pub use value::{Binary, Document, Regex, Value};
+pub use wide::Wide;
 
 #[cfg(test)]
 mod tests;

@@ -10,9 +10,10 @@ ghost use Rattle.bson_wire.specs.Reading.{element_told, pairs_told, items_told};
 use crate::foreign::{Foreign, is_foreign, past_foreign};
 use crate::refused::ReadRefused;
 use crate::scalars::{ended, length, name, part, scalar};
-use bson_values::{Document, List, Text, Value, head, tail};
+use bson_values::{Document, List, Pair, Text, Value};
 use case_tables::type_byte;
 use std::alloc::Global;
+use std_words::{head, tail};
 
 /// The document at the front of some bytes.
 #[derive(Debug, Drop)]
@@ -86,18 +87,18 @@ fn element(
 
 fn push(
     alloc: Global,
-    doc: &mut Document,
+    pairs: &mut List<Pair<Value>>,
     name: &str,
     value: Option<Value>,
 ) -> Result<(), ReadRefused>
-    ensures ok { OnOk result (doc.new ≡ doc.old ++ pair_of name.now value) }
+    ensures ok { OnOk result (pairs.new ≡ pairs.old ++ pair_of name.now value) }
     ensures err { IfErr result (λ refused. refused ≡ ReadRefused.NoMemory) }
 {
     let Some(value) = value else {
         return Ok(());
     };
     let name = Text::of(alloc, name)?;
-    match doc.push(name, value) {
+    match pairs.push(Pair { name, value }) {
         Ok(()) => Ok(()),
         Err(_) => Err(ReadRefused::NoMemory),
     }
@@ -129,7 +130,7 @@ fn elements(
         (pairs_told (all_at (document_at levels) (array_at levels) end bytes.now)) }
     ensures near { IfOk result (λ it. Before end it.1) }
 {
-    let mut doc = Document::new(alloc);
+    let mut pairs = List::new(alloc);
     let mut foreign = None;
     let mut rest = bytes;
     while rest.len() > 0 {
@@ -138,11 +139,11 @@ fn elements(
             Ok(found) => found,
             Err(refused) => return Err(refused),
         };
-        push(alloc, &mut doc, name, value)?;
+        push(alloc, &mut pairs, name, value)?;
         foreign = foreign.or(inner);
         rest = after;
     }
-    Ok((doc, foreign))
+    Ok((Document::of(alloc, pairs)?, foreign))
 }
 
 /// The values of the elements that fill the bytes, and the first foreign one.

@@ -51,7 +51,7 @@ fn namespace(alloc: Global, space: &Space) -> Result<Text, NoMemory>
     let mut text = String::from_str(alloc, space.db.as_str())?;
     text.push_str(".")?;
     text.push_str(space.coll.as_str())?;
-    Ok(Text::from_string(text))
+    Text::from_string(alloc, text)
 }
 
 fn cursor(alloc: Global, space: &Space, docs: List<Document>) -> Result<Document, NoMemory>

@@ -31,7 +31,7 @@ fn sentence(alloc: Global, kind: Kind, code: Option<u8>) -> Result<Text, NoMemor
     let mut text = String::from_str(alloc, text_of(kind))?;
     text.push_str(" ")?;
     text.push_str(name)?;
-    Ok(Text::from_string(text))
+    Text::from_string(alloc, text)
 }
 
 /// `{ok: 0, errmsg: .., code: .., codeName: ..}`: what a refused message is answered. `code` is the type byte of its first element of

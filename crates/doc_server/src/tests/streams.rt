@@ -152,7 +152,9 @@ fn other_words_are_bad(rt: HostRuntime) -> Result<(), Fail> {
 fn a_failed_read_ends_the_connection_at_once(rt: HostRuntime) -> Result<(), Fail> {
     for read in 0..=51 {
         let came = outcome(rt.alloc(), &["pipe"], &PING, 1, &[read], &[])?;
-        assert_eq!(rt; came.status, 8, "read {read}");
+        // Behind the last byte of the message its answer is out before the next read.
+        let len = if read == 51 { 34 } else { 0 };
+        assert_eq!(rt; (came.status, came.written.len()), (8, len), "read {read}");
     }
     Ok(())
 }

@@ -41,5 +41,8 @@ module _ {A : Type 0} where
   pub by-length : (P : List A → List A → Type 0) (xs ys : List A) → (length xs < length ys → P ys xs) → (length ys ≤ length xs → P xs ys)
       → P (longer xs ys) (shorter xs ys)
   by-length P xs ys less more = elim (nat_lt (length xs) (length ys)) as (λ b. nat_lt (length xs) (length ys) ≡ b
-      → P (if◌then◌else◌ b ys xs) (if◌then◌else◌ b xs ys)) [ true ↦ λ e. less (grind (arith, nat_tests)) | false ↦ λ e. more
-      (grind (arith, nat_tests)) ] refl
+      → P (if◌then◌else◌ b ys xs) (if◌then◌else◌ b xs ys)) [
+        | true ↦ λ e. less (grind (arith, nat_tests))
+        | false ↦ λ e. more
+            (grind (arith, nat_tests))
+      ] refl

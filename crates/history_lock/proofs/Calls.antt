@@ -32,7 +32,7 @@ module _ {O S C R : Type 0} (m : Meaning O S C R) where
       → m.allows s n.call.value n.reply.value (m.faults n.before.value) (m.faults n.after.value)
   allowed-there n call reply object then s ran is =
       subst (λ (z : S × C × R × O × O). m.allows z.0 z.1 z.2 (m.faults z.3) (m.faults z.4))
-          (λ i. (is i, sym ran.asked i, sym ran.replied i, sym ran.before i, sym ran.after i)) ran.allowed
+      (λ i. (is i, sym ran.asked i, sym ran.replied i, sym ran.before i, sym ran.after i)) ran.allowed
 
   -- and so is the state after it
   pub next-there : (n : Note O C R) (call : C) (reply : R) (object then : O) (s : S) → Ran n call reply object then → m.state object ≡ s
@@ -55,7 +55,7 @@ module _ {O S C R : Type 0} (m : Meaning O S C R) (origin : Origin S) (me : Me (
       → Allows (Kept m key) slots id noted 0 (λ k. (k + 1) % 2 ^ 64) (logs m.faults (step slots 0 1 0 none) noted)
   may-log key slots id noted sits turn ran is =
       subst (λ (z : Me (Held O C R) (Known S C R)). Allows (Kept m key) slots id z 0 (λ k. (k + 1) % 2 ^ 64)
-          (logs m.faults (step slots 0 1 0 none) z)) (sym is)
+      (logs m.faults (step slots 0 1 0 none) z)) (sym is)
       (logs-allowed m key slots id turn.ticket (me.0, (0, Made n) ∷ []) origin n turn.serves sits.origin refl (longer-legal sits turn ran))
 
   -- with the object back in the slot it sits as before
@@ -86,7 +86,7 @@ module _ {O S C R : Type 0} (faults : O → ℕ) (me : Me (Held O C R) (Known S 
   was-logged found noted done is logs =
       logs n (ap (λ (z : Me (Held O C R) (Known S C R)). z.1) is)
       ∙ ap (λ (z : Me (Held O C R) (Known S C R)). let x : Me (Held O C R) (Known S C R) =
-          (record z.0 { at = logged faults n z.0.at }, z.1) in x) is
+      (record z.0 { at = logged faults n z.0.at }, z.1) in x) is
 
 module _ {O S C R : Type 0} (m : Meaning O S C R) (origin : Origin S) (me : Me (Held O C R) (Known S C R)) (n : Note O C R) (call : C)
     (reply : R) (object then : O) where
@@ -98,9 +98,9 @@ module _ {O S C R : Type 0} (m : Meaning O S C R) (origin : Origin S) (me : Me (
   was-called found noted counted done sits turn ran noting logging putting =
       let after : Known S C R = record me.0 { at = logged m.faults n me.0.at } in
       let counts : counted.0 ≡ after =
-          ap (λ (z : Me (Held O C R) (Known S C R)). z.0) (was-logged m.faults me n found noted counted noting logging) in
+      ap (λ (z : Me (Held O C R) (Known S C R)). z.0) (was-logged m.faults me n found noted counted noting logging) in
       let is : done ≡ (after, (0, Here then) ∷ []) = putting
-          ∙ ap (λ (v : Known S C R). let x : Me (Held O C R) (Known S C R) = (v, (0, Here then) ∷ []) in x) counts in
+      ∙ ap (λ (v : Known S C R). let x : Me (Held O C R) (Known S C R) = (v, (0, Here then) ∷ []) in x) counts in
       let at : done.0.at ≡ logged m.faults n me.0.at = ap (λ (z : Me (Held O C R) (Known S C R)). z.0.at) is in record {
         sits = sits-after m origin me n call reply object then done sits turn ran is;
         same = ap (λ (z : Me (Held O C R) (Known S C R)). z.0) is
@@ -109,8 +109,13 @@ module _ {O S C R : Type 0} (m : Meaning O S C R) (origin : Origin S) (me : Me (
           before = m.faults n.before.value;
           after = m.faults n.after.value;
           seen = ap (λ (a : View C R). a.seen) at
-              ∙ (λ i. me.0.at.seen ++ record { who = n.who; call = ran.asked i; reply = ran.replied i; before = m.faults n.before.value;
-              after = m.faults n.after.value } ∷ []);
+              ∙ (λ i. me.0.at.seen ++ record {
+                who = n.who;
+                call = ran.asked i;
+                reply = ran.replied i;
+                before = m.faults n.before.value;
+                after = m.faults n.after.value;
+              } ∷ []);
           own = ap (λ (a : View C R). a.own) at;
         };
       }

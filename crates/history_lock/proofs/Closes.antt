@@ -51,8 +51,12 @@ module _ {O S C R : Type 0} (m : Meaning O S C R) (key : Origin S) where
           idle = λ e. refl;
         };
         apart = λ i j t v w p q x y. absurd (subst (λ (z : Known S C R). HasTicket z.stage t) (sym (only i v p)) x);
-        home = inl (object, refl, (sym state, sym faults),
-            (λ i u at t e. let stage : u.stage ≡ Free = ap (λ (z : Known S C R). z.stage) (sym (only i u at)) in cc (e, stage)));
+        home = inl (
+          object,
+          refl,
+          (sym state, sym faults),
+          (λ i u at t e. let stage : u.stage ≡ Free = ap (λ (z : Known S C R). z.stage) (sym (only i u at)) in cc (e, stage)),
+        );
       }
     where
       single : (v : Known S C R) (i : ℕ) (u : Known S C R) → get_elem? (v ∷ []) i ≡ some u → v ≡ u
@@ -67,13 +71,13 @@ module _ {O S C R : Type 0} (m : Meaning O S C R) (key : Origin S) where
       let whole : total parts_of s.views ≡ parts_of v = r.parts ∙ sym all in
       let own = owns-all m key s r id v at all in
       let queue : total queued_of s.views ≡ queued_of v =
-          total-alone parts_of queued_of s.views id v at whole
-          (λ j u there none_left. queued-none u.stage (λ k h. let p = (r.each j u there).sits k h in omega arith)) in
+      total-alone parts_of queued_of s.views id v at whole
+      (λ j u there none_left. queued-none u.stage (λ k h. let p = (r.each j u there).sits k h in omega arith)) in
       let seen = sees-all m key s r id v at all in
       let home : (object : O) × (s.homes ≡ some (Here object) ∷ []) × StandsAt m key r.log object =
       ⊎_elim (λ h. (h.0, h.1, h.2)) (λ h. absurd (let t = h.1 in let one : queued_of t.1 ≡ 1 = ap queued t.3 in
-          let none_there : queued_of v ≡ 0 = ap queued free in let most = total-at queued_of s.views t.0 t.1 t.2 in omega arith)) r.home in
-          record {
+      let none_there : queued_of v ≡ 0 = ap queued free in let most = total-at queued_of s.views t.0 t.1 t.2 in omega arith)) r.home in
+      record {
         object = home.0;
         slot = f.4 0 (Here home.0) (ap (λ l. get_elem? l 0) home.1);
         word = ap (λ (l : List ℕ). get_elem? l 0) (sym f.2 ∙ r.words) ∙ ap (λ (l : List (Entry C R)). some (length l % 2 ^ 64)) (sym seen);
@@ -93,7 +97,7 @@ module _ {O S C R : Type 0} (m : Meaning O S C R) where
       → Final (Seen (Kept m (origin_of m.state m.faults told)) id v) ws xs → Closing m (origin_of m.state m.faults start) v.at ws xs
   may-close told start id v ws xs same free all final =
       closes m (origin_of m.state m.faults start) id v ws xs free all
-          (subst (λ (z : Start O). Final (Seen (Kept m (origin_of m.state m.faults z)) id v) ws xs) same final)
+      (subst (λ (z : Start O). Final (Seen (Kept m (origin_of m.state m.faults z)) id v) ws xs) same final)
 
 module _ {O S C R : Type 0} (m : Meaning O S C R) (key : Origin S) (v : View C R) (ws : List ℕ) (xs : List (Held O C R))
     (closing : Closing m key v ws xs) where

@@ -31,16 +31,16 @@ module _ (O C R S : RattleType) (g : Ghosts O.Denot C.Denot R.Denot S.Denot) whe
   inside_send : IsSend O → IsSend (inside.the_row O C R S g)
   inside_send o =
       let all : AllSend (shape (inside.the_type O C R S g)).fields =
-          (search (table.the_field_send, held_send, heap.send, heap.frees), (start_send, tt)) in
+      (search (table.the_field_send, held_send, heap.send, heap.frees), (start_send, tt)) in
       recorded_send (inside.the_field O C R S g).row _ _ (inside.the_type O C R S g).to_one
-          (struct_send (shape (inside.the_type O C R S g)) all)
+      (struct_send (shape (inside.the_type O C R S g)) all)
 
   inside_sync : IsSend O → IsSync (inside.the_row O C R S g)
   inside_sync o =
       let all : AllSync (shape (inside.the_type O C R S g)).fields =
-          (search (table.the_field_sync, held_send, heap.send, heap.sync, heap.frees), (start_sync, tt)) in
+      (search (table.the_field_sync, held_send, heap.send, heap.sync, heap.frees), (start_sync, tt)) in
       recorded_sync (inside.the_field O C R S g).row _ _ (inside.the_type O C R S g).to_one
-          (struct_sync (shape (inside.the_type O C R S g)) all)
+      (struct_sync (shape (inside.the_type O C R S g)) all)
 
   -- each type that callers have
   pub seat_send : IsSend O → IsSend (seat.the_row O C R S g)

@@ -27,10 +27,20 @@ module _ {C R : Type 0} where
   -- the two cases
   joined-by : (b : Bool) (one other : View C R) → IsPrefix (if b then one.seen else other.seen) (if b then other.seen else one.seen)
       → Joined one other record { seen = if b then other.seen else one.seen; own = one.own ++ other.own }
-  joined-by true one other p = record { past_one = p.0; past_other = []; seen_one = sym p.1; seen_other = sym (append-nil other.seen);
-      own = refl }
-  joined-by false one other p = record { past_one = []; past_other = p.0; seen_one = sym (append-nil one.seen); seen_other = sym p.1;
-      own = refl }
+  joined-by true one other p = record {
+    past_one = p.0;
+    past_other = [];
+    seen_one = sym p.1;
+    seen_other = sym (append-nil other.seen);
+    own = refl;
+  }
+  joined-by false one other p = record {
+    past_one = [];
+    past_other = p.0;
+    seen_one = sym (append-nil one.seen);
+    seen_other = sym p.1;
+    own = refl;
+  }
 
   -- the longer of two lists begins with both, where the shorter begins it
   pub joined : (one other : View C R) → IsPrefix (shorter one.seen other.seen) (longer one.seen other.seen)

@@ -34,7 +34,7 @@ module _ {O S C R : Type 0} (m : Meaning O S C R) (key : Origin S) where
   placed s r id v w at own i =
       let t = total-set (times_of i) s.views id v w at in
       let more : times w.at.own i ≡ times v.at.own i + times (length r.log ∷ []) i = ap (λ (l : List ℕ). times l i) own
-          ∙ times-append v.at.own (length r.log ∷ []) i in
+      ∙ times-append v.at.own (length r.log ∷ []) i in
       let p = r.places i in
       let b = below-more (length r.log) i in omega arith
 
@@ -60,8 +60,11 @@ module _ {O S C R : Type 0} (m : Meaning O S C R) (key : Origin S) where
   logs-next : (s : State (Held O C R) (Known S C R)) (r : Rule s) (id : ℕ) (v : Known S C R) → get_elem? s.views id ≡ some v
       → v.stage ≡ Serves r.passed → (e : Entry C R)
       → legal m.allows m.next key.opening key.first (r.log ++ e ∷ [])
-      → Rule record { words = set s.words 0 ((get_or s.words 0 0 + 1) % 2 ^ 64); homes = s.homes;
-          views = set s.views id (record v { at = record { seen = v.at.seen ++ e ∷ []; own = v.at.own ++ length v.at.seen ∷ [] } }) }
+      → Rule record {
+        words = set s.words 0 ((get_or s.words 0 0 + 1) % 2 ^ 64);
+        homes = s.homes;
+        views = set s.views id (record v { at = record { seen = v.at.seen ++ e ∷ []; own = v.at.own ++ length v.at.seen ∷ [] } });
+      }
   logs-next s r id v at serving e may =
       let w : Known S C R = record v { at = record { seen = v.at.seen ++ e ∷ []; own = v.at.own ++ length v.at.seen ∷ [] } } in
       let f = r.each id v at in
@@ -91,8 +94,10 @@ module _ {O S C R : Type 0} (m : Meaning O S C R) (key : Origin S) where
           idle = λ h. let p = f.sits r.passed (subst (λ (z : Stage). HasTicket z r.passed) (sym serving) refl) in absurd (omega arith);
         } (others-log s r id v at serving e);
         apart = distinct-set s.views id w r.apart (same-stage m key s r id v at);
-        home = inr (out-with m key r.log r.passed id r.passed s.homes s.views v at serving r.home,
-            (id, w, set-at s.views id v w at, serving));
+        home = inr (
+          out-with m key r.log r.passed id r.passed s.homes s.views v at serving r.home,
+          (id, w, set-at s.views id v w at, serving),
+        );
       }
 
   -- the seat whose ticket is served may log the call of its note
@@ -106,7 +111,7 @@ module _ {O S C R : Type 0} (m : Meaning O S C R) (key : Origin S) where
       let here = f.serves t serves in
       let now : v.stage ≡ Serves r.passed = serves ∙ ap (λ (k : ℕ). Serves k) here.0 in
       let legally = subst (λ (z : Origin S × List (Entry C R)). legal m.allows m.next z.0.opening z.0.first
-          (z.1 ++ entry_of m.faults n ∷ [])) (λ i. (f.origin o from i, here.1 i)) may in (
+      (z.1 ++ entry_of m.faults n ∷ [])) (λ i. (f.origin o from i, here.1 i)) may in (
         record v { at = logged m.faults n v.at },
         keeps,
         tt,

@@ -37,7 +37,7 @@ module _ {O S C R : Type 0} (m : Meaning O S C R) (key : Origin S) where
   distinct-more vs w free apart i j t a b p q x y =
       ⊎_elim
       (λ (h : get_elem? vs i ≡ some a). ⊎_elim (λ (k : get_elem? vs j ≡ some b). apart i j t a b h k x y)
-          (λ (k : w ≡ b). absurd (none_of b k y)) (at_snoc vs w b j q))
+      (λ (k : w ≡ b). absurd (none_of b k y)) (at_snoc vs w b j q))
       (λ (h : w ≡ a). absurd (none_of a h x)) (at_snoc vs w a i p)
     where
       none_of : (u : Known S C R) → w ≡ u → HasTicket u.stage t → ⊥
@@ -109,7 +109,7 @@ module _ {O S C R : Type 0} (m : Meaning O S C R) (key : Origin S) where
         (λ h. prefix-shorter w.at.seen v.at.seen log g.seen f.seen h);
     own = by-length (λ l k. Within (is_own (v.at.own ++ w.at.own)) (length l)) v.at.seen w.at.seen
         (λ h. within-join v.at.own w.at.own (length w.at.seen)
-            (within-wider v.at.own (length v.at.seen) (length w.at.seen) (omega arith) f.own) g.own)
+        (within-wider v.at.own (length v.at.seen) (length w.at.seen) (omega arith) f.own) g.own)
         (λ h. within-join v.at.own w.at.own (length v.at.seen) f.own (within-wider w.at.own (length w.at.seen) (length v.at.seen) h g.own));
     idle = λ e. let a = f.idle (omega arith) in let b = g.idle (omega arith) in ap (λ l. l ++ w.at.own) a ∙ b;
   }

@@ -41,8 +41,11 @@ module _ {O S C R : Type 0} (m : Meaning O S C R) (key : Origin S) where
   -- the seat whose ticket is served gives the object back where the history leads
   passes-next : (s : State (Held O C R) (Known S C R)) (r : Rule s) (id : ℕ) (v : Known S C R) → get_elem? s.views id ≡ some v
       → v.stage ≡ Serves r.passed → (object : O) → StandsAt m key r.log object
-      → Rule record { words = set s.words 2 ((get_or s.words 2 0 + 1) % 2 ^ 64); homes = set s.homes 0 (some (Here object));
-          views = set s.views id (record v { stage = Free }) }
+      → Rule record {
+        words = set s.words 2 ((get_or s.words 2 0 + 1) % 2 ^ 64);
+        homes = set s.homes 0 (some (Here object));
+        views = set s.views id (record v { stage = Free });
+      }
   passes-next s r id v at serving object stands =
       let w : Known S C R = record v { stage = Free } in
       let f = r.each id v at in
@@ -76,7 +79,7 @@ module _ {O S C R : Type 0} (m : Meaning O S C R) (key : Origin S) where
           stands,
           each-set (λ u. (t : ℕ) → u.stage ≡ Serves t → ⊥) s.views id w (λ t e. cc)
               (λ j u other there t h. other (r.apart j id r.passed u v there at
-                  (subst (λ (z : Stage). HasTicket z r.passed) (sym h) ((r.each j u there).serves t h).0) mine)),
+              (subst (λ (z : Stage). HasTicket z r.passed) (sym h) ((r.each j u there).serves t h).0) mine)),
         );
       }
 
@@ -90,7 +93,7 @@ module _ {O S C R : Type 0} (m : Meaning O S C R) (key : Origin S) where
       let here = f.serves t serves in
       let now : v.stage ≡ Serves r.passed = serves ∙ ap (λ (k : ℕ). Serves k) here.0 in
       let stands' : StandsAt m key r.log object =
-          subst (λ (z : Origin S × List (Entry C R)). StandsAt m z.0 z.1 object) (λ i. (f.origin o from i, here.1 i)) stands in
+      subst (λ (z : Origin S × List (Entry C R)). StandsAt m z.0 z.1 object) (λ i. (f.origin o from i, here.1 i)) stands in
       let w : Known S C R = record v { stage = Free } in (
         w,
         gives,

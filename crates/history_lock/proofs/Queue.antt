@@ -53,7 +53,7 @@ module _ {S C R : Type 0} where
       → (j : ℕ) (u : Known S C R) → get_elem? (set vs id w) j ≡ some u → F u
   each-set F vs id w mine others j u at =
       ⊎_elim (λ (h : (j ≡ id) × (w ≡ u)). subst F h.1 mine) (λ (h : (j ≢ id) × (get_elem? vs j ≡ some u)). others j u h.0 h.1)
-          (at_set vs id j w u at)
+      (at_set vs id j w u at)
 
   -- tickets stay distinct where the new one clashes with none
   pub distinct-set : (vs : List (Known S C R)) (id : ℕ) (w : Known S C R) → Distinct vs
@@ -63,9 +63,9 @@ module _ {S C R : Type 0} where
       ⊎_elim
       (λ (h : (i ≡ id) × (w ≡ a)). ⊎_elim (λ (k : (j ≡ id) × (w ≡ b)). h.0 ∙ sym k.0)
       (λ (k : (j ≢ id) × (get_elem? vs j ≡ some b)). absurd
-          (clash j t b k.0 k.1 y (subst (λ (z : Known S C R). HasTicket z.stage t) (sym h.1) x))) (at_set vs id j w b q))
+      (clash j t b k.0 k.1 y (subst (λ (z : Known S C R). HasTicket z.stage t) (sym h.1) x))) (at_set vs id j w b q))
       (λ (h : (i ≢ id) × (get_elem? vs i ≡ some a)). ⊎_elim
-          (λ (k : (j ≡ id) × (w ≡ b)). absurd (clash i t a h.0 h.1 x (subst (λ (z : Known S C R). HasTicket z.stage t) (sym k.1) y)))
+      (λ (k : (j ≡ id) × (w ≡ b)). absurd (clash i t a h.0 h.1 x (subst (λ (z : Known S C R). HasTicket z.stage t) (sym k.1) y)))
       (λ (k : (j ≢ id) × (get_elem? vs j ≡ some b)). apart i j t a b h.1 k.1 x y) (at_set vs id j w b q))
       (at_set vs id i w a p)
 
@@ -74,8 +74,12 @@ module _ {S C R : Type 0} where
       → (v.stage ≡ Serves passed → w.stage ≡ Serves passed) → Serving vs passed → Serving (set vs id w) passed
   serving-set vs id passed v w at keeps s =
       dite (ℕ_discrete s.0 id)
-      (λ e. (id, w, set-at vs id v w at,
-          keeps (ap (λ (z : Known S C R). z.stage) (some-injective v s.1 (sym at ∙ (ap (get_elem? vs) (sym e) ∙ s.2))) ∙ s.3)))
+      (λ e. (
+        id,
+        w,
+        set-at vs id v w at,
+        keeps (ap (λ (z : Known S C R). z.stage) (some-injective v s.1 (sym at ∙ (ap (get_elem? vs) (sym e) ∙ s.2))) ∙ s.3),
+      ))
       (λ ne. (s.0, s.1, set_else vs id s.0 w ne ∙ s.2, s.3))
 
   -- none serves where the one that changed does not
@@ -120,7 +124,7 @@ module _ {O S C R : Type 0} (m : Meaning O S C R) (key : Origin S) (s : State (H
       → t ≡ r.passed
   first-in-line id t v at has all =
       let alone = total-alone parts_of queued_of s.views id v at (r.parts
-          ∙ sym all) (λ i u there none_left. queued-none u.stage (λ k h. let p = (r.each i u there).sits k h in omega arith)) in
+      ∙ sym all) (λ i u there none_left. queued-none u.stage (λ k h. let p = (r.each i u there).sits k h in omega arith)) in
       let most = queued-most v.stage in
       let k = (r.each id v at).ticket t has in let lo = k.0 in let hi = k.1 in
       let q = r.queue in omega arith

@@ -58,7 +58,7 @@ module _ {O S C R : Type 0} (m : Meaning O S C R) where
       let l = look t (ap (λ (z : Me (Held O C R) (Known S C R)). z.0.stage) w.is) in
       served-since t old mid new w
       (l.1 (l.2 o (ap (λ (z : Me (Held O C R) (Known S C R)). z.0.origin) w.is
-          ∙ from) (ap (λ (z : Me (Held O C R) (Known S C R)). z.0.parts) w.is ∙ all)))
+      ∙ from) (ap (λ (z : Me (Held O C R) (Known S C R)). z.0.parts) w.is ∙ all)))
 
   -- and then nothing came since its last call
   pub sees-no-more : (t : ℕ) (old new : Me (Held O C R) (Known S C R)) (o : Origin S) → Served m t old new → old.0.origin ≡ Some o

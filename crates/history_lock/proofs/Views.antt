@@ -26,8 +26,13 @@ module _ {C R : Type 0} where
     between = p.more;
     before = q.before;
     after = q.after;
-    seen = q.seen ∙ ap (λ (l : List (Entry C R)). l ++ record { who = who; call = call; reply = reply; before = q.before;
-        after = q.after } ∷ []) p.seen;
+    seen = q.seen ∙ ap (λ (l : List (Entry C R)). l ++ record {
+      who = who;
+      call = call;
+      reply = reply;
+      before = q.before;
+      after = q.after;
+    } ∷ []) p.seen;
     own = q.own ∙ (λ i. p.own i ++ length (p.seen i) ∷ []);
   }
 

@@ -92,15 +92,18 @@ module _ {O S C R : Type 0} (m : Meaning O S C R) (key : Origin S) where
       let there : HasTicket t.1.stage r.passed = subst (λ (z : Stage). HasTicket z r.passed) (sym t.3) refl in
       let same : id ≡ t.0 = r.apart id t.0 r.passed v t.1 at t.2 here there in
       let stage : v.stage ≡ t.1.stage =
-          ap (λ (z : Known S C R). z.stage) (some-injective v t.1 (sym at ∙ (ap (get_elem? s.views) same ∙ t.2))) in
+      ap (λ (z : Known S C R). z.stage) (some-injective v t.1 (sym at ∙ (ap (get_elem? s.views) same ∙ t.2))) in
       absurd (cc (waits, t.3, stage)))
       r.home
 
   -- the seat whose ticket is served takes the object, and sees the whole history
   serves-next : (s : State (Held O C R) (Known S C R)) (r : Rule s) (id : ℕ) (v : Known S C R) → get_elem? s.views id ≡ some v
       → v.stage ≡ Waits r.passed → (more : List (Entry C R)) → v.at.seen ++ more ≡ r.log
-      → Rule record { words = set s.words 2 (get_or s.words 2 0); homes = none ∷ [];
-          views = set s.views id (record v { stage = Serves r.passed; at = record { seen = v.at.seen ++ more; own = v.at.own } }) }
+      → Rule record {
+        words = set s.words 2 (get_or s.words 2 0);
+        homes = none ∷ [];
+        views = set s.views id (record v { stage = Serves r.passed; at = record { seen = v.at.seen ++ more; own = v.at.own } });
+      }
   serves-next s r id v at waits more all =
       let w : Known S C R = record v { stage = Serves r.passed; at = record { seen = v.at.seen ++ more; own = v.at.own } } in
       let ticket : (t : ℕ) → r.passed ≡ t → HasTicket v.stage t = λ t e. subst (λ (z : Stage). HasTicket z t) (sym waits) e in record {
@@ -138,10 +141,10 @@ module _ {O S C R : Type 0} (m : Meaning O S C R) (key : Origin S) where
       let has : HasTicket v.stage t = subst (λ (z : Stage). HasTicket z t) (sym waits) refl in
       let mine : (u : ℕ) → v.stage ≡ Waits u → t ≡ u = λ u e. cc (waits, e) in
       let origin : v.origin ≡ Some key = from
-          ∙ ap (λ (z : Origin S). let x : Option (Origin S) = Some z in x) ((r.each id v at).origin o from) in
+      ∙ ap (λ (z : Origin S). let x : Option (Origin S) = Some z in x) ((r.each id v at).origin o from) in
       let first : (o : Origin S) → v.origin ≡ Some o → v.parts ≡ o.parts → get_or s.words 2 0 ≡ t % 2 ^ 64 =
       λ o e all. found ∙ ap (λ (k : ℕ). k % 2 ^ 64)
-          (sym (first-in-line m key s r id t v at has (all ∙ ap (λ (z : Origin S). z.parts) ((r.each id v at).origin o e)))) in
+      (sym (first-in-line m key s r id t v at has (all ∙ ap (λ (z : Origin S). z.parts) ((r.each id v at).origin o e)))) in
       dite (ℕ_discrete (get_or s.words 2 0) (t % 2 ^ 64))
       (λ hit.
       let same : t ≡ r.passed = same-ticket m key s r id t v at has (sym found ∙ hit) in
@@ -161,8 +164,10 @@ module _ {O S C R : Type 0} (m : Meaning O S C R) (key : Origin S) where
             object = h.0;
             more = pre.0;
             origin = origin;
-            view = ap (λ (k : ℕ). let z : Known S C R = record v { stage = Serves k;
-                at = record { seen = v.at.seen ++ pre.0; own = v.at.own } } in z) (sym same ∙ mine u e);
+            view = ap (λ (k : ℕ). let z : Known S C R = record v {
+              stage = Serves k;
+              at = record { seen = v.at.seen ++ pre.0; own = v.at.own };
+            } in z) (sym same ∙ mine u e);
             slot = ap (λ l. (0, Here h.0) ∷ l) empty;
             stands = subst (λ l. StandsAt m key l h.0) (sym pre.1) h.2;
             legally = subst (legal m.allows m.next key.opening key.first) (sym pre.1) r.legally;
@@ -177,6 +182,10 @@ module _ {O S C R : Type 0} (m : Meaning O S C R) (key : Origin S) where
         keeps,
         tt,
         unchanged m key s r 2 id v at,
-        λ u e. ((λ _. refl), (λ hit. absurd (miss (hit ∙ ap (λ (k : ℕ). k % 2 ^ 64) (sym (mine u e))))), λ o a b. first o a b
-            ∙ ap (λ (k : ℕ). k % 2 ^ 64) (mine u e)),
+        λ u e. (
+          (λ _. refl),
+          (λ hit. absurd (miss (hit ∙ ap (λ (k : ℕ). k % 2 ^ 64) (sym (mine u e))))),
+          λ o a b. first o a b
+              ∙ ap (λ (k : ℕ). k % 2 ^ 64) (mine u e),
+        ),
       ))

@@ -36,7 +36,7 @@ module _ {O S C R : Type 0} (m : Meaning O S C R) (key : Origin S) where
       → v.parts ≡ key.parts → (i : ℕ) → below (length r.log) i ≡ times v.at.own i
   owns-all s r id v at all i =
       sym (r.places i) ∙ total-alone parts_of (times_of i) s.views id v at (r.parts
-          ∙ sym all) (λ j u there none_left. ap (λ (l : List ℕ). times l i) ((r.each j u there).idle none_left))
+      ∙ sym all) (λ j u there none_left. ap (λ (l : List ℕ). times l i) ((r.each j u there).idle none_left))
 
   -- and has seen them
   pub sees-all : (s : State (Held O C R) (Known S C R)) (r : Rule s) (id : ℕ) (v : Known S C R) → get_elem? s.views id ≡ some v

@@ -24,3 +24,13 @@ pub fn answers<L: Link>(link: &mut L, call: Call) -> bool {
         Call::Now(wanted) => link.now() == wanted,
     }
 }
+
+/// The first call that the link answers otherwise.
+pub fn first_wrong<L: Link>(link: &mut L, calls: &[Call]) -> Option<usize> {
+    for (place, call) in calls.iter().enumerate() {
+        if !answers(link, *call) {
+            return Some(place);
+        }
+    }
+    None
+}

@@ -9,4 +9,4 @@ unreachable-requires g c =
 pub returns : goal.returns
 returns g c =
     ends _ _ _ _ _ (may-close _ _ _ _ _ _ _ c.requires.table.2 c.requires.free c.requires.all c.close_with-closed.ensures.values.2)
-        _ _ _ c.take.ensures.value c.in-Here.is c.word-count.ensures
+    _ _ _ c.take.ensures.value c.in-Here.is c.word-count.ensures

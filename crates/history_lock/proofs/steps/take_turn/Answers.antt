@@ -9,7 +9,7 @@ fetch_add-ticket-requires g c = (search rules, omega arith, draws-allowed _ _ _ 
 pub load-serving-requires : goal.load-serving-requires
 load-serving-requires g c =
     let w = c.loop.invariant.waits in
-        (search rules, omega arith, may-look _ _ _ _ w.0 _ _ c.requires.sits.0 w.2 c.requires.sits.1 c.requires.free.1)
+    (search rules, omega arith, may-look _ _ _ _ w.0 _ _ c.requires.sits.0 w.2 c.requires.sits.1 c.requires.free.1)
 
 pub returns-then-serving-ticket-clause-served : goal.returns-then-serving-ticket-clause-served
 returns-then-serving-ticket-clause-served g c =

@@ -8,18 +8,21 @@ fetch_add-requires g c = (search rules, omega arith, draws-allowed _ _ _ _ _ c.r
 
 pub load-requires : goal.load-requires
 load-requires g c =
-    let d = c.fetch_add.ensures.2 in
-        (search rules, omega arith, may-look _ _ _ _ d.0 c.args.place.now.me _ c.requires.sits.0 record { is = d.2 } c.requires.sits.1
-        c.requires.free.1)
+    let d = c.fetch_add.ensures.2 in (
+      search rules,
+      omega arith,
+      may-look _ _ _ _ d.0 c.args.place.now.me _ c.requires.sits.0 record { is = d.2 } c.requires.sits.1
+          c.requires.free.1,
+    )
 
 pub returns-clause-served : goal.returns-clause-served
 returns-clause-served g c =
     let d = c.fetch_add.ensures.2 in
-        (d.0, has-turn-alone _ d.0 _ _ _ _ c.requires.sits.0 record { is = d.2 } c.load.ensures.2 c.requires.sits.1 c.requires.sits.3)
+    (d.0, has-turn-alone _ d.0 _ _ _ _ c.requires.sits.0 record { is = d.2 } c.load.ensures.2 c.requires.sits.1 c.requires.sits.3)
 
 pub returns-clause-seen : goal.returns-clause-seen
 returns-clause-seen g c =
     let d = c.fetch_add.ensures.2 in
     sees-no-more _ d.0 c.args.place.now.me _ c.requires.sits.0
-        (has-turn-alone _ d.0 _ _ _ _ c.requires.sits.0 record { is = d.2 } c.load.ensures.2 c.requires.sits.1 c.requires.sits.3)
-        c.requires.sits.1 c.requires.sits.3
+    (has-turn-alone _ d.0 _ _ _ _ c.requires.sits.0 record { is = d.2 } c.load.ensures.2 c.requires.sits.1 c.requires.sits.3)
+    c.requires.sits.1 c.requires.sits.3

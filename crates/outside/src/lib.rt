@@ -10,7 +10,7 @@ mod world;
 
 pub use link::{Failed, Gate, Link};
 pub use memory_link::MemoryLink;
-pub use memory_world::MemoryWorld;
+pub use memory_world::{MemoryWorld, SureWorld};
 pub use sure_link::SureLink;
 pub use world::World;
 

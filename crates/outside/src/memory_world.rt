@@ -3,6 +3,7 @@ ghost use Rattle.std.specs.Option.{option_and_then};
 ghost use Rattle.outside.specs.Told.{IsFresh};
 
 use crate::link::Link;
+use crate::sure_link::SureLink;
 use crate::world::World;
 use std::marker::Model;
 
@@ -54,3 +55,6 @@ impl<L: Link> World for MemoryWorld<L> {
         self.console.take().unwrap()
     }
 }
+
+/// A world in memory whose console never fails.
+pub type SureWorld = MemoryWorld<SureLink>;

@@ -17,6 +17,7 @@ use Rattle.bson_wire.proofs.Lengths.{size-Int, size-Long, size-Str, size-Doc}
 use Rattle.case_tables.specs.Refusals.{code_of, code_name_of, text_of}
 use Rattle.case_tables.specs.Types.{type_name_of}
 use Rattle.case_tables.proofs.Bounds.{text_short, name_short, type_name_short}
+use Rattle.op_msg.specs.Limits.{MOST_REPLY}
 use Rattle.reply_words.specs.declared.replies.Reply.{Reply}
 use Rattle.reply_words.specs.declared.replies.Reply.TheVariants.{Done, Error, Inserted, NotInserted, Batch}
 use Rattle.reply_words.specs.Replies.{int, long, text, document, documents, named, sentence, item_error, namespace, cursor, document_of, total_size, fit_a_batch}
@@ -82,7 +83,7 @@ cursor_short space docs small =
       small.1,
     )
 
-pub fits : (reply : Reply) → IsSmall reply → length (spell (document_of reply)) ≤ 47999000
+pub fits : (reply : Reply) → IsSmall reply → length (spell (document_of reply)) ≤ MOST_REPLY
 fits Done small = omega (arith, spell-push [] (codes "ok") (value.Int (pos 1)), size-Int (pos 1))
 fits Inserted small =
     let one : List (Pair Value) = int "n" 1 ∷ [] in

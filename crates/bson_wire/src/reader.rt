@@ -9,9 +9,10 @@ ghost use Rattle.bson_wire.specs.Reading.{Gives, Tells, value_at, element_at, al
 use crate::foreign::{Foreign, earlier, is_foreign, past_foreign};
 use crate::refused::ReadRefused;
 use crate::scalars::{ended, length, name, part, scalar};
-use bson_values::{Document, List, Text, Value, head, tail};
+use bson_values::{Document, List, Pair, Text, Value};
 use case_tables::type_byte;
 use std::alloc::Global;
+use std_words::{head, tail};
 
 /// The document at the front of some bytes.
 #[derive(Debug, Drop)]
@@ -85,7 +86,7 @@ fn element(
 
 fn push(
     alloc: Global,
-    doc: &mut Document,
+    doc: &mut List<Pair<Value>>,
     name: &str,
     value: Option<Value>,
 ) -> Result<(), ReadRefused>
@@ -96,7 +97,7 @@ fn push(
         return Ok(());
     };
     let name = Text::of(alloc, name)?;
-    match doc.push(name, value) {
+    match doc.push(Pair { name, value }) {
         Ok(()) => Ok(()),
         Err(_) => Err(ReadRefused::NoMemory),
     }
@@ -128,7 +129,7 @@ fn elements(
         (pairs_told (all_at (document_at levels) (array_at levels) end bytes.now)) }
     ensures near { IfOk result (λ it. Before end it.1) }
 {
-    let mut doc = Document::new(alloc);
+    let mut doc = List::new(alloc);
     let mut foreign = None;
     let mut rest = bytes;
     while rest.len() > 0 {
@@ -141,7 +142,7 @@ fn elements(
         foreign = earlier(foreign, inner);
         rest = after;
     }
-    Ok((doc, foreign))
+    Ok((Document::of(alloc, doc)?, foreign))
 }
 
 /// The values of the elements that fill the bytes, and the first foreign one.

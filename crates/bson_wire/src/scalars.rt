@@ -2,11 +2,12 @@ ghost use Rattle.std.specs.Prelude.{◌≡◌, ◌≤◌, ◌<◌, ◌==◌, ◌
 ghost use Rattle.bson_wire.specs.Reading.{Gives, number_at, long_at, length_at, part_at, ended_at, text_of, nul_at, name_at, text_at, string_at, binary_at, id_at, bool_at, regex_at, scalar_at};
 
 use crate::refused::ReadRefused;
-use bson_values::{Binary, Bytes, Regex, Text, Value, head, tail};
+use bson_values::{Binary, Bytes, Regex, Text, Value};
 use byteorder::{ByteOrder, LittleEndian};
 use case_tables::type_byte;
 use std::alloc::Global;
 use std::str::from_utf8;
+use std_words::{head, tail};
 
 #[tactic(auto, unfolding(crate::specs::Reading::number_at))]
 fn number(bytes: &[u8], place: u64) -> Result<(u32, &[u8]), ReadRefused>

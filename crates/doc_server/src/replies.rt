@@ -70,7 +70,7 @@ fn naming(alloc: Global, code: u8) -> Result<Text, NoMemory>
     let mut text = String::from_str(alloc, text_of(UNSUPPORTED_TYPE))?;
     text.push_str(" ")?;
     text.push_str(type_name_of(code as u32))?;
-    Ok(Text::from_string(text))
+    Ok(Text::from_string(alloc, text)?)
 }
 
 /// The reply to a refused message, which has this first foreign element.
@@ -183,7 +183,7 @@ fn namespace(alloc: Global, space: &Space) -> Result<Text, NoMemory>
     let mut text = String::from_str(alloc, space.db.as_str())?;
     text.push_str(".")?;
     text.push_str(space.coll.as_str())?;
-    Ok(Text::from_string(text))
+    Ok(Text::from_string(alloc, text)?)
 }
 
 /// The reply to a find: all of the documents in one batch, and no cursor.

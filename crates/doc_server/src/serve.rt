@@ -8,10 +8,10 @@ ghost use Rattle.doc_server.specs.Steps.{Fetches, Moves, Answers, end_of, fault_
 use crate::answers::answer;
 use crate::plain_store::PlainStore;
 use crate::why::Why;
-use bson_values::{head, tail};
 use op_msg::{Message, Taken, take};
 use outside::{Failed, Link};
 use std::alloc::Global;
+use std_words::{head, tail};
 
 /// A connection that was served to its end.
 #[derive(Debug, Drop)]

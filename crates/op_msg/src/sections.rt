@@ -6,10 +6,11 @@ ghost use Rattle.op_msg.specs.Front.{Gives};
 
 use crate::message::{BadKind, Message, Sequence};
 use crate::refused::Refused;
-use bson_values::{Document, List, Text, head, tail};
+use bson_values::{Document, List, Text};
 use bson_wire::{Foreign, ReadRefused, name, read};
 use byteorder::{ByteOrder, LittleEndian};
 use std::alloc::Global;
+use std_words::{head, tail};
 
 /// A foreign element of a document that begins at `place`, with its place in the message.
 fn moved(foreign: Option<Foreign>, place: u64) -> Option<Foreign>

@@ -5,9 +5,9 @@ ghost use Rattle.op_msg.specs.Front.{Takes, Gives};
 use crate::message::{BadKind, Message, OP_MSG, Taken};
 use crate::refused::Refused;
 use crate::sections::content;
-use bson_values::{head, tail};
 use byteorder::{ByteOrder, LittleEndian};
 use std::alloc::Global;
+use std_words::{head, tail};
 
 /// The fewest and the most bytes of a message.
 const LEAST: u32 = 16;

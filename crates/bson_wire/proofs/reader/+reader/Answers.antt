@@ -10,7 +10,7 @@ pub elements-loop-rest-init : goal.elements-loop-rest-init
 elements-loop-rest-init t c = (goes-start _ _ _ _ _ _ _ _ c.new-doc.ensures, tt)
 
 pub elements-returns-clause-value : goal.elements-returns-clause-value
-elements-returns-clause-value t c = goes-end _ _ _ _ _ _ _ _ _ _ c.loop-rest.invariant.0 (omega arith)
+elements-returns-clause-value t c = rw c.in_ok-of.ensures (goes-end _ _ _ _ _ _ _ _ _ _ c.loop-rest.invariant.0 (omega arith))
 
 pub elements-returns-in-Err-clause-value : goal.elements-returns-in-Err-clause-value
 elements-returns-in-Err-clause-value t c = goes-bad _ _ _ _ _ _ _ _ _ _ c.loop-rest.invariant.0 c.loop-rest-test.true _ (rw c.tail.ensures at c.in-Err.ensures.value)

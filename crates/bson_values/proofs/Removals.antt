@@ -1,5 +1,6 @@
 -- The first places of names, once one of the names is taken out.
-use Rattle.std.proofs.Common.{◌≡◌, ℕ, ◌+◌, ◌-◌, zero, suc, Bool, true, false, ◌&&◌, cond, nat_eq, nat_lt, List, [], ◌∷◌, ◌++◌, map, Option, None, Some, take, drop, refl, sym, ap, subst, ◌∙◌, arith, slice_get, option_map, if◌then◌else◌}
+use Rattle.std.proofs.Common.{◌≡◌, ℕ, ◌+◌, ◌-◌, zero, suc, Bool, true, false, ◌&&◌, cond, nat_eq, nat_lt, List, [], ◌∷◌, ◌++◌, map}
+use Rattle.std.proofs.Common.{Option, None, Some, take, drop, refl, sym, ap, subst, ◌∙◌, arith, slice_get, option_map, if◌then◌else◌}
 use Rattle.std.proofs.lemmas.Grind.{common_steps}
 use Rattle.std.proofs.lemmas.Slice.Eq.{bytes_eq-Decides}
 use Rattle.std.proofs.lemmas.List.{map-append, drop-map, take-map}
@@ -34,11 +35,13 @@ at_start (Some n) next = grind (arith, common_steps)
 before : (place : ℕ) (next : Option ℕ) → after (suc place) (Some 0) next ≡ Some 0
 before place next = grind (arith, common_steps)
 
-one_further : (found : Option ℕ) (place : ℕ) → option_map (λ n. n + suc place) found ≡ option_map (λ n. n + 1) (option_map (λ n. n + place) found)
+one_further : (found : Option ℕ) (place : ℕ)
+    → option_map (λ n. n + suc place) found ≡ option_map (λ n. n + 1) (option_map (λ n. n + place) found)
 one_further None place = refl
 one_further (Some n) place = ap Some (omega arith)
 
-behind : (found : Option ℕ) (place : ℕ) (next : Option ℕ) → after (suc place) (option_map (λ n. n + 1) found) (option_map (λ n. n + 1) next) ≡ option_map (λ n. n + 1) (after place found next)
+behind : (found : Option ℕ) (place : ℕ) (next : Option ℕ)
+    → after (suc place) (option_map (λ n. n + 1) found) (option_map (λ n. n + 1) next) ≡ option_map (λ n. n + 1) (after place found next)
 behind None place next = refl
 behind (Some n) place next = grind (arith, common_steps)
 
@@ -56,24 +59,35 @@ without-further place x xs = ap (λ rest. x ∷ take place xs ++ rest) (drop-fur
 -- ---- a name is taken out
 
 -- where a name stands first, once the name at a place is taken out
-gone : (name : List ℕ) (names : List (List ℕ)) (place : ℕ) → after place (first_place name names) (next_place name place names) ≡ first_place name (without place names)
+gone : (name : List ℕ) (names : List (List ℕ)) (place : ℕ)
+    → after place (first_place name names) (next_place name place names) ≡ first_place name (without place names)
 gone name [] zero = refl
-gone name [] (suc place) = let one : suc place + 1 ≡ suc (place + 1) = omega arith in ap (λ n. first_place name (drop {A = List ℕ} n [])) (sym one)
+gone name [] (suc place) =
+    let one : suc place + 1 ≡ suc (place + 1) = omega arith in ap (λ n. first_place name (drop {A = List ℕ} n [])) (sym one)
 gone name (x ∷ xs) zero = by (bytes_eq x name) ∙ ap (first_place name) (sym (without-first x xs))
   where
     next : next_place name zero (x ∷ xs) ≡ first_place name xs
     next = from_start (first_place name (drop (0 + 1) (x ∷ xs))) ∙ ap (first_place name) (without-first x xs)
-    by : (b : Bool) → after zero (if b then Some 0 else option_map (λ n. n + 1) (first_place name xs)) (next_place name zero (x ∷ xs)) ≡ first_place name xs
+
+    by : (b : Bool)
+        → after zero (if b then Some 0 else option_map (λ n. n + 1) (first_place name xs)) (next_place name zero (x ∷ xs))
+        ≡ first_place name xs
     by true = next
     by false = at_start (first_place name xs) (next_place name zero (x ∷ xs))
 gone name (x ∷ xs) (suc place) = by (gone name xs place) (bytes_eq x name) ∙ ap (first_place name) (sym (without-further place x xs))
   where
     next : next_place name (suc place) (x ∷ xs) ≡ option_map (λ n. n + 1) (next_place name place xs)
-    next = ap (λ rest. option_map (λ n. n + suc place) (first_place name rest)) (drop-further place x xs) ∙ one_further (first_place name (drop (place + 1) xs)) place
-    by : after place (first_place name xs) (next_place name place xs) ≡ first_place name (without place xs) → (b : Bool) → after (suc place) (if b then Some 0 else option_map (λ n. n + 1) (first_place name xs)) (next_place name (suc place) (x ∷ xs))
+    next =
+        ap (λ rest. option_map (λ n. n + suc place) (first_place name rest)) (drop-further place x xs)
+        ∙ one_further (first_place name (drop (place + 1) xs)) place
+
+    by : after place (first_place name xs) (next_place name place xs) ≡ first_place name (without place xs) → (b : Bool)
+        → after (suc place) (if b then Some 0 else option_map (λ n. n + 1) (first_place name xs)) (next_place name (suc place) (x ∷ xs))
         ≡ (if b then Some 0 else option_map (λ n. n + 1) (first_place name (without place xs)))
     by more true = before place (next_place name (suc place) (x ∷ xs))
-    by more false = ap (after (suc place) (option_map (λ n. n + 1) (first_place name xs))) next ∙ behind (first_place name xs) place (next_place name place xs) ∙ ap (option_map (λ n. n + 1)) more
+    by more false =
+        ap (after (suc place) (option_map (λ n. n + 1) (first_place name xs))) next
+        ∙ behind (first_place name xs) place (next_place name place xs) ∙ ap (option_map (λ n. n + 1)) more
 
 here-further : (found : Option ℕ) (place : ℕ) → is_here (option_map (λ n. n + 1) found) (suc place) ≡ true → is_here found place ≡ true
 here-further None place is = is
@@ -87,43 +101,57 @@ not_start : (place : ℕ) → is_here (Some 0) (suc place) ≡ true → ⊥
 not_start place is = grind (arith, common_steps, is)
 
 -- the first place of a name has that name
-there : (name at : List ℕ) (names : List (List ℕ)) (place : ℕ) → slice_get names place ≡ Some at → is_here (first_place name names) place ≡ true → bytes_eq at name ≡ true
+there : (name at : List ℕ) (names : List (List ℕ)) (place : ℕ) → slice_get names place ≡ Some at
+    → is_here (first_place name names) place ≡ true → bytes_eq at name ≡ true
 there name at [] place has is = cc
 there name at (x ∷ xs) zero has is = by (bytes_eq x name) refl is
   where
-    by : (b : Bool) → bytes_eq x name ≡ b → is_here (if b then Some 0 else option_map (λ n. n + 1) (first_place name xs)) zero ≡ true → bytes_eq at name ≡ true
+    by : (b : Bool) → bytes_eq x name ≡ b → is_here (if b then Some 0 else option_map (λ n. n + 1) (first_place name xs)) zero ≡ true
+        → bytes_eq at name ≡ true
     by true same here = let e : x ≡ at = cc in ap (λ y. bytes_eq y name) (sym e) ∙ same
     by false same here = absurd (here-start (first_place name xs) here)
 there name at (x ∷ xs) (suc place) has is = by (there name at xs place has) (bytes_eq x name) is
   where
-    by : (is_here (first_place name xs) place ≡ true → bytes_eq at name ≡ true) → (b : Bool) → is_here (if b then Some 0 else option_map (λ n. n + 1) (first_place name xs)) (suc place) ≡ true → bytes_eq at name ≡ true
+    by : (is_here (first_place name xs) place ≡ true → bytes_eq at name ≡ true) → (b : Bool)
+        → is_here (if b then Some 0 else option_map (λ n. n + 1) (first_place name xs)) (suc place) ≡ true → bytes_eq at name ≡ true
     by more true here = absurd (not_start place here)
     by more false here = more (here-further (first_place name xs) place here)
 
 -- another name than that at the place is not there
-apart : (name at : List ℕ) (names : List (List ℕ)) (place : ℕ) → slice_get names place ≡ Some at → bytes_eq at name ≡ false → is_here (first_place name names) place ≡ false
+apart : (name at : List ℕ) (names : List (List ℕ)) (place : ℕ) → slice_get names place ≡ Some at → bytes_eq at name ≡ false
+    → is_here (first_place name names) place ≡ false
 apart name at names place has other = by (is_here (first_place name names) place) refl
   where
     by : (b : Bool) → is_here (first_place name names) place ≡ b → b ≡ false
     by false is = refl
     by true is = cc (there name at names place has is, other)
 
-elsewhere : (name : List ℕ) (names : List (List ℕ)) (place : ℕ) → is_here (first_place name names) place ≡ false → option_map (lowered place) (first_place name names) ≡ first_place name (without place names)
-elsewhere name names place is = ap (λ b. cond b (next_place name place names) (option_map (lowered place) (first_place name names))) (sym is) ∙ gone name names place
+elsewhere : (name : List ℕ) (names : List (List ℕ)) (place : ℕ) → is_here (first_place name names) place ≡ false
+    → option_map (lowered place) (first_place name names) ≡ first_place name (without place names)
+elsewhere name names place is =
+    ap (λ b. cond b (next_place name place names) (option_map (lowered place) (first_place name names))) (sym is) ∙ gone name names place
 
 -- a name that stood first at the place stands at the next one, and others are lowered
-pub forgot_first : (at : List ℕ) (names : List (List ℕ)) (place : ℕ) → slice_get names place ≡ Some at → is_here (first_place at names) place ≡ true
-    → (name : List ℕ) → cond (bytes_eq at name) (next_place at place names) (option_map (lowered place) (first_place name names)) ≡ first_place name (without place names)
+pub forgot_first : (at : List ℕ) (names : List (List ℕ)) (place : ℕ) → slice_get names place ≡ Some at
+    → is_here (first_place at names) place ≡ true
+    → (name : List ℕ)
+    → cond (bytes_eq at name) (next_place at place names) (option_map (lowered place) (first_place name names))
+    ≡ first_place name (without place names)
 forgot_first at names place has first name = by (bytes_eq at name) refl
   where
     same : at ≡ name → next_place at place names ≡ first_place name (without place names)
-    same e = ap (λ b. cond b (next_place at place names) (option_map (lowered place) (first_place at names))) (sym first) ∙ gone at names place ∙ ap (λ y. first_place y (without place names)) e
-    by : (b : Bool) → bytes_eq at name ≡ b → cond b (next_place at place names) (option_map (lowered place) (first_place name names)) ≡ first_place name (without place names)
+    same e =
+        ap (λ b. cond b (next_place at place names) (option_map (lowered place) (first_place at names))) (sym first)
+        ∙ gone at names place ∙ ap (λ y. first_place y (without place names)) e
+
+    by : (b : Bool) → bytes_eq at name ≡ b
+        → cond b (next_place at place names) (option_map (lowered place) (first_place name names)) ≡ first_place name (without place names)
     by true is = same ((bytes_eq-Decides at name).0 is)
     by false is = elsewhere name names place (apart name at names place has is)
 
 -- where it stood before too, all are lowered
-pub forgot_later : (at : List ℕ) (names : List (List ℕ)) (place : ℕ) → slice_get names place ≡ Some at → is_here (first_place at names) place ≡ false
+pub forgot_later : (at : List ℕ) (names : List (List ℕ)) (place : ℕ) → slice_get names place ≡ Some at
+    → is_here (first_place at names) place ≡ false
     → (name : List ℕ) → option_map (lowered place) (first_place name names) ≡ first_place name (without place names)
 forgot_later at names place has later name = by (bytes_eq at name) refl
   where
@@ -134,7 +162,8 @@ forgot_later at names place has later name = by (bytes_eq at name) refl
 -- ---- a pair is taken out
 
 -- behind the place of what is gone stands what stood behind it
-behind-gone : {A : Type 0} (xs : List A) (place : ℕ) (x : A) → slice_get xs place ≡ Some x → drop place (without place xs) ≡ drop (place + 1) xs
+behind-gone : {A : Type 0} (xs : List A) (place : ℕ) (x : A) → slice_get xs place ≡ Some x
+    → drop place (without place xs) ≡ drop (place + 1) xs
 behind-gone [] place x is = cc
 behind-gone (y ∷ xs) zero x is = refl
 behind-gone (y ∷ xs) (suc place) x is =
@@ -150,13 +179,15 @@ names-gone {V} pairs place =
 
 -- what tells the places of names does so of pairs, one of which is taken out
 pub removed : {V : Type 0} (pairs left : List (Pair V)) (place : ℕ) (pair : Pair V) (old new : BTreeMap (String Global) ℕ) (next : Option ℕ)
-    → slice_get pairs place ≡ Some pair → left ≡ without place pairs → next ≡ option_map (λ further. further + place) (first_place pair.name (names (drop place left)))
-    → ((ns : List (List ℕ)) → slice_get ns place ≡ Some pair.name → next ≡ next_place pair.name place ns → Indexes old ns → Indexes new (without place ns))
+    → slice_get pairs place ≡ Some pair → left ≡ without place pairs
+    → next ≡ option_map (λ further. further + place) (first_place pair.name (names (drop place left)))
+    → ((ns : List (List ℕ)) → slice_get ns place ≡ Some pair.name → next ≡ next_place pair.name place ns → Indexes old ns
+    → Indexes new (without place ns))
     → Indexes old (names pairs) → Indexes new (names left)
 removed {V} pairs left place pair old new next has rest is forget tells =
     let name : Pair V → List ℕ = λ p. p.name in
     let at = slice_get-map name pairs place ∙ ap (option_map name) has in
     let behind_it = ap (drop place) rest ∙ behind-gone pairs place pair has in
     let further = is ∙ ap (λ ps. option_map (λ n. n + place) (first_place pair.name (names ps))) behind_it
-        ∙ ap (λ ns. option_map (λ n. n + place) (first_place pair.name ns)) (sym (drop-map name (place + 1) pairs)) in
+    ∙ ap (λ ns. option_map (λ n. n + place) (first_place pair.name ns)) (sym (drop-map name (place + 1) pairs)) in
     subst (Indexes new) (sym (ap names rest ∙ names-gone pairs place)) (forget (names pairs) at further tells)

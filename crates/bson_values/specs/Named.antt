@@ -15,7 +15,9 @@ use Rattle.bson_values.specs.Names.{names}
 
 -- one pair: a name, which holds no value, and a value
 abbrev pub named : Former {0} → Former {0}
-named value = via (pair (const (List ℕ)) value) (λ X. Pair (value.Of X)) (λ X p. (p.name, p.value)) (λ X v. record { name = v.0; value = v.1 }) (λ X p. refl) (λ X v. refl)
+named value =
+    via (pair (const (List ℕ)) value) (λ X. Pair (value.Of X)) (λ X p. (p.name, p.value)) (λ X v. record { name = v.0; value = v.1 })
+    (λ X p. refl) (λ X v. refl)
 
 -- the pairs, in order
 abbrev pub all_named : Former {0} → Former {0}
@@ -23,7 +25,8 @@ all_named value = list (named value)
 
 abbrev pub all_weighed : {value : Former {0}} → Weighed value → Weighed (all_named value)
 all_weighed {value} weighed =
-    w_list (w_via (w_pair (w_const (List ℕ)) weighed) (λ X. Pair (value.Of X)) (λ X p. (p.name, p.value)) (λ X v. record { name = v.0; value = v.1 }) (λ X p. refl) (λ X v. refl))
+    w_list (w_via (w_pair (w_const (List ℕ)) weighed) (λ X. Pair (value.Of X)) (λ X p. (p.name, p.value))
+    (λ X v. record { name = v.0; value = v.1 }) (λ X p. refl) (λ X v. refl))
 
 -- the values, in order
 abbrev pub values_of : (X : Type 0) → List (Pair X) → List X
@@ -49,8 +52,11 @@ pair_code R p = gcons ((coded_list coded_ℕ).code p.name) (R.coded.code p.value
 
 module _ (R S : RattleType) (h : R.Denot → S.Denot) where
   pub pair_places : Alike R S h → Alike (pair_type.the_row R) (pair_type.the_row S) (along h)
-  pair_places alike = struct_places (pair_type.the_type R) (pair_type.the_type S) (λ n. n, (h, tt)) _ (λ d. refl) refl ((refl, (λ n. refl, λ n. refl)), (laid _ _ _ alike, tt))
+  pair_places alike =
+      struct_places (pair_type.the_type R) (pair_type.the_type S) (λ n. n, (h, tt)) _ (λ d. refl) refl
+      ((refl, (λ n. refl, λ n. refl)), (laid _ _ _ alike, tt))
 
   -- pairs are stored by the same code where their values are
   pub pairs_coded : Recodes R S h → (pairs : List (Pair R.Denot)) → code_l (pair_code S) (map (along h) pairs) ≡ code_l (pair_code R) pairs
-  pairs_coded recodes pairs = sym (code_map (pair_code R) (pair_code S) (along h) (λ x i. gcons ((coded_list coded_ℕ).code x.name) (sym (recodes x.value) i)) pairs)
+  pairs_coded recodes pairs =
+      sym (code_map (pair_code R) (pair_code S) (along h) (λ x i. gcons ((coded_list coded_ℕ).code x.name) (sym (recodes x.value) i)) pairs)

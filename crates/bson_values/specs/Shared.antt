@@ -27,7 +27,9 @@ Shared X = Arc X Global
 
 -- a shared list of named values
 abbrev pub shared : Former {0}
-shared = via (pair (const Ptr) (all_named this)) (λ X. Shared (List (Pair X))) (λ X a. (a.ptr, a.value)) (λ X v. record { ptr = v.0; value = v.1 }) (λ X a. refl) (λ X v. refl)
+shared =
+    via (pair (const Ptr) (all_named this)) (λ X. Shared (List (Pair X))) (λ X a. (a.ptr, a.value))
+    (λ X v. record { ptr = v.0; value = v.1 }) (λ X a. refl) (λ X v. refl)
 
 module _ {X : Type 0} where
   abbrev pub split : Option X → Unit {0} ⊎ X
@@ -48,7 +50,8 @@ module _ {X : Type 0} where
 
 -- there may be none
 abbrev pub some_shared : Former {0}
-some_shared = via (or (const (Unit {0})) shared) (λ X. Option (Shared (List (Pair X)))) (λ X. split) (λ X. join) (λ X. join-split) (λ X. split-join)
+some_shared =
+    via (or (const (Unit {0})) shared) (λ X. Option (Shared (List (Pair X)))) (λ X. split) (λ X. join) (λ X. join-split) (λ X. split-join)
 
 -- the same block, with another value
 abbrev pub with_value : {X Y : Type 0} → Shared X → Y → Shared Y
@@ -79,10 +82,13 @@ module _ (R S : RattleType) (h : R.Denot → S.Denot) where
 
   variant : (o : Option (Shared R.Denot))
       → (option.enum (arc_of S)).as_values (held_along h o)
-      ≡ eachs (option.enum (arc_of R)).parts (option.enum (arc_of S)).parts (tt, ((shared_along h, tt), tt)) ((option.enum (arc_of R)).as_values o)
+      ≡ eachs (option.enum (arc_of R)).parts (option.enum (arc_of S)).parts (tt, ((shared_along h, tt), tt))
+      ((option.enum (arc_of R)).as_values o)
   variant None = refl
   variant (Some it) = refl
 
   -- it is stored alike where its value is
   pub held_places : Alike R S h → Alike (option.the_row (arc_of R)) (option.the_row (arc_of S)) (held_along h)
-  held_places alike = enum_places (option.enum (arc_of R)) (option.enum (arc_of S)) (tt, ((shared_along h, tt), tt)) (held_along h) variant refl (tt, ((laid _ _ _ (arc_places alike), tt), tt))
+  held_places alike =
+      enum_places (option.enum (arc_of R)) (option.enum (arc_of S)) (tt, ((shared_along h, tt), tt)) (held_along h) variant refl
+      (tt, ((laid _ _ _ (arc_places alike), tt), tt))

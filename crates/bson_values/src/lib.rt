@@ -5,6 +5,7 @@
 mod bytes;
 mod copying;
 mod index;
+mod laws;
 mod list;
 mod measures;
 mod memory;
@@ -17,6 +18,7 @@ mod value;
 mod wide;
 
 pub use bytes::Bytes;
+pub use laws::storable_where_allowed;
 pub use list::List;
 pub use memory::NoMemory;
 pub use pairs::{Pair, Pairs};
@@ -25,7 +27,6 @@ pub use space::Space;
 pub use storing::{MOST_BYTES, MOST_LEVELS, Unstorable, storable};
 pub use text::Text;
 pub use value::{Binary, Document, Regex, Value};
-pub use wide::Wide;
 
 #[cfg(test)]
 mod tests;

@@ -11,6 +11,7 @@ use Rattle.bson_values.proofs.index.lower.Goals as goal
 -- the closure keeps each name, and lowers its place
 pub returns : goal.returns
 returns c = λ name.
-    let kept = map_same_pairs _ (lowered c.args.gone) _ (λ k v b w f' t. search rules) c.args.index.now.entries c.retain.new.self.entries c.retain.ensures.filtered in
+    let kept = map_same_pairs _ (lowered c.args.gone) _
+    (λ k v b w f' t. search rules) c.args.index.now.entries c.retain.new.self.entries c.retain.ensures.filtered in
     let at = is_at (λ k. slice_cmp nat_cmp name (string_bytes k)) in
     ap (lookup at) kept ∙ lookup-map_values (lowered c.args.gone) at c.args.index.now.entries

@@ -13,7 +13,8 @@ use Rattle.command_words.specs.Meaning.{AreNamed, meaning, space_of}
 use Rattle.command_words.specs.Namespace.{is_database_name, is_collection_name}
 use Rattle.command_words.specs.Told.{Asks}
 
-pub are_named : (word : Word) (m : Message) → (is_database_name (db_of m) && ((shape_of word).free || is_collection_name (db_of m) (coll_of m))) ≡ true → AreNamed (meaning word m)
+pub are_named : (word : Word) (m : Message)
+    → (is_database_name (db_of m) && ((shape_of word).free || is_collection_name (db_of m) (coll_of m))) ≡ true → AreNamed (meaning word m)
 unfolding shape_of space_of
 are_named Ping m is = tt
 are_named Insert m is = and-both _ _ is

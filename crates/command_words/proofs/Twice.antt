@@ -1,5 +1,6 @@
 -- Names that are looked at one after another: whether one of them stood before.
-use Rattle.std.proofs.Common.{◌≡◌, ◌⊎◌, inl, inr, ℕ, ◌+◌, ◌-◌, ◌<◌, ◌≤◌, zero, suc, Bool, true, false, ◌||◌, nat_lt, List, [], ◌∷◌, ◌++◌, length, map, take, drop}
+use Rattle.std.proofs.Common.{◌≡◌, ◌⊎◌, inl, inr, ℕ, ◌+◌, ◌-◌, ◌<◌, ◌≤◌, zero, suc, Bool}
+use Rattle.std.proofs.Common.{true, false, ◌||◌, nat_lt, List, [], ◌∷◌, ◌++◌, length, map, take, drop}
 use Rattle.std.proofs.Common.{Option, None, Some, slice_get, get_or, refl, sym, ap, ◌∙◌, arith, append_assoc}
 use Rattle.std.specs.Prelude.{is_some, option_map, if◌then◌else◌}
 use Rattle.std.specs.List.{list_any}
@@ -25,7 +26,8 @@ none_before : (found : Option ℕ) → false ≡ is_before found 0
 none_before None = refl
 none_before (Some n) = grind (arith, common_steps)
 
-one_more : (here : Bool) (found : Option ℕ) (i : ℕ) → here || is_before found i ≡ is_before (if here then Some 0 else option_map (λ n. n + 1) found) (suc i)
+one_more : (here : Bool) (found : Option ℕ) (i : ℕ)
+    → here || is_before found i ≡ is_before (if here then Some 0 else option_map (λ n. n + 1) found) (suc i)
 one_more true found i = grind (arith, common_steps)
 one_more false None i = refl
 one_more false (Some n) i = grind (arith, common_steps)
@@ -35,7 +37,8 @@ pub stood : (name : List ℕ) (all : List (List ℕ)) (i : ℕ) → stands (take
 stood name [] zero = refl
 stood name [] (suc i) = refl
 stood name (one ∷ all) zero = none_before (first_place name (one ∷ all))
-stood name (one ∷ all) (suc i) = ap (λ more. bytes_eq one name || more) (stood name all i) ∙ one_more (bytes_eq one name) (first_place name all) i
+stood name (one ∷ all) (suc i) =
+    ap (λ more. bytes_eq one name || more) (stood name all i) ∙ one_more (bytes_eq one name) (first_place name all) i
 
 found_more : (here : Bool) (found : Option ℕ) → here || is_some found ≡ is_some (if here then Some 0 else option_map (λ n. n + 1) found)
 found_more true found = refl
@@ -60,7 +63,8 @@ swapped one other differ = by (bytes_eq other one) refl
     by true e = never-both (bytes_eq one other) ((bytes_eq-Decides one other).1 (sym ((bytes_eq-Decides other one).0 e))) differ
 
 -- a name that stood before is given twice
-pub twice_now : (before : List (List ℕ)) (name : List ℕ) (more : List (List ℕ)) → stands before name ≡ true → has_twice (before ++ name ∷ more) ≡ true
+pub twice_now : (before : List (List ℕ)) (name : List ℕ) (more : List (List ℕ)) → stands before name ≡ true
+    → has_twice (before ++ name ∷ more) ≡ true
 twice_now [] name more is = absurd cc
 twice_now (one ∷ before) name more is =
     elim (or-either (bytes_eq one name) (stands before name) is) [
@@ -74,7 +78,8 @@ pub stands_either : (some others : List (List ℕ)) (name : List ℕ) → stands
 stands_either some others name = list_any-append (λ other. bytes_eq other name) some others
 
 -- one that did not adds nothing
-pub once_more : (before : List (List ℕ)) (name : List ℕ) → has_twice before ≡ false → stands before name ≡ false → has_twice (before ++ name ∷ []) ≡ false
+pub once_more : (before : List (List ℕ)) (name : List ℕ) → has_twice before ≡ false → stands before name ≡ false
+    → has_twice (before ++ name ∷ []) ≡ false
 once_more [] name none new = refl
 once_more (one ∷ before) name none new =
     or-neither _ _
@@ -93,7 +98,8 @@ twice_still (one ∷ before) more is =
 
 -- ---- things with names, looked at one after another
 
-named_at : {X : Type 0} (name : X → List ℕ) (xs : List X) (i : ℕ) (it : X) → i < length xs → it ≡ get_or xs i it → slice_get (map name xs) i ≡ Some (name it)
+named_at : {X : Type 0} (name : X → List ℕ) (xs : List X) (i : ℕ) (it : X) → i < length xs → it ≡ get_or xs i it
+    → slice_get (map name xs) i ≡ Some (name it)
 named_at name [] i it within is = absurd (omega arith)
 named_at {X} name (x ∷ xs) zero it within is = ap (λ (one : X). Some (name one)) (sym is)
 named_at name (x ∷ xs) (suc i) it within is = named_at name xs i it (omega arith) is
@@ -109,7 +115,8 @@ parted (one ∷ all) zero name is = cc
 parted (one ∷ all) (suc i) name is = ap (λ more. one ∷ more) (parted all i name is)
 
 -- a name that stood in front or before its place is given twice
-pub taken_twice : (front all : List (List ℕ)) (i : ℕ) (name : List ℕ) → slice_get all i ≡ Some name → stands (front ++ take i all) name ≡ true → true ≡ has_twice (front ++ all)
+pub taken_twice : (front all : List (List ℕ)) (i : ℕ) (name : List ℕ) → slice_get all i ≡ Some name
+    → stands (front ++ take i all) name ≡ true → true ≡ has_twice (front ++ all)
 taken_twice front all i name at stood =
     sym (ap (λ names. has_twice (front ++ names)) (parted all i name at)
     ∙ ap has_twice (sym (append_assoc front (take i all) (name ∷ drop (suc i) all)))
@@ -124,13 +131,16 @@ taken_once front all i name at none new =
     ∙ ap has_twice (sym (append_assoc front (take i all) (name ∷ []))) ∙ once_more (front ++ take i all) name none new
 
 -- the name of the thing at a place, as it is read
-pub read_at : {X : Type 0} (name : X → List ℕ) (xs : List X) (i : ℕ) (it : X) (text : List ℕ) → i < length xs → it ≡ get_or xs i it → text ≡ name it
+pub read_at : {X : Type 0} (name : X → List ℕ) (xs : List X) (i : ℕ) (it : X) (text : List ℕ) → i < length xs
+    → it ≡ get_or xs i it → text ≡ name it
     → slice_get (map name xs) i ≡ Some text
 read_at name xs i it text within is reads = named_at name xs i it within is ∙ ap Some (sym reads)
 
 -- the names seen and one more are the first ones
-pub seen_more : (all seen : List (List ℕ)) (i : ℕ) (name : List ℕ) → slice_get all i ≡ Some name → seen ≡ take i all ++ name ∷ [] → seen ≡ take (i + 1) all
-seen_more all seen i name at is = let one_on : i + 1 ≡ suc i = omega arith in is ∙ sym (next all i name at) ∙ ap (λ n. take n all) (sym one_on)
+pub seen_more : (all seen : List (List ℕ)) (i : ℕ) (name : List ℕ) → slice_get all i ≡ Some name
+    → seen ≡ take i all ++ name ∷ [] → seen ≡ take (i + 1) all
+seen_more all seen i name at is =
+    let one_on : i + 1 ≡ suc i = omega arith in is ∙ sym (next all i name at) ∙ ap (λ n. take n all) (sym one_on)
 
 all_taken : (all : List (List ℕ)) (n : ℕ) → length all ≤ n → take n all ≡ all
 all_taken [] zero within = refl

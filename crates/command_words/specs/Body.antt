@@ -1,5 +1,6 @@
 -- What stands in a message: its first field has the command's name, the others and the sequences say what it works on.
-use Rattle.std.specs.Prelude.{ℕ, Bool, true, false, ◌&&◌, ◌||◌, List, [], ◌∷◌, ◌++◌, Option, None, Some, map, find, option_map, is_ok, codes}
+use Rattle.std.specs.Prelude.{ℕ, Bool, true, false, ◌&&◌, ◌||◌, List, [], ◌∷◌}
+use Rattle.std.specs.Prelude.{◌++◌, Option, None, Some, map, find, option_map, is_ok, codes}
 use Rattle.std.specs.Option.{option_or, unwrap_or}
 use Rattle.std.specs.Str.{bytes_eq}
 use Rattle.bson_values.specs.declared.pairs.Pair.{Pair}
@@ -15,11 +16,6 @@ use Rattle.op_msg.specs.declared.message.Sequence.{Sequence}
 abbrev pub own_in : List (Pair Value) → Option Value
 own_in [] = None
 own_in (field ∷ fields) = Some field.value
-
--- the fields behind the command's name
-abbrev pub behind : List (Pair Value) → List (Pair Value)
-behind [] = []
-behind (field ∷ fields) = fields
 
 -- a document
 abbrev pub is_document : Value-F Value → Bool
@@ -74,5 +70,6 @@ can_be_id _ = true
 
 -- one document, its `_id` first, and such as may be stored
 abbrev pub may_be_inserted : List (List (Pair Value)) → Bool
-may_be_inserted ((field ∷ fields) ∷ []) = bytes_eq field.name (codes "_id") && can_be_id (out-Value field.value) && is_ok (storable (field ∷ fields))
+may_be_inserted ((field ∷ fields) ∷ []) =
+    bytes_eq field.name (codes "_id") && can_be_id (out-Value field.value) && is_ok (storable (field ∷ fields))
 may_be_inserted _ = false

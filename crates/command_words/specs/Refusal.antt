@@ -1,5 +1,5 @@
 -- Why a message is refused: the first kind, in the order in which the reasons are looked at.
-use Rattle.std.specs.Prelude.{ℕ, ◌≡◌, ◌<◌, ◌⊎◌, Bool, true, false, not, ◌||◌, ◌&&◌, if◌then◌else◌, nat_lt, List, [], ◌∷◌, length}
+use Rattle.std.specs.Prelude.{ℕ, ◌≡◌, ◌<◌, ◌⊎◌, Bool, true, false, not, ◌||◌, ◌&&◌, if◌then◌else◌, nat_lt, List, [], ◌∷◌, length, drop}
 use Rattle.std.specs.Prelude.{Option, None, Some, is_some, is_none, find, option_map, codes}
 use Rattle.std.specs.List.{list_any, list_all}
 use Rattle.std.specs.Option.{IsSome, unwrap_or}
@@ -18,7 +18,7 @@ use Rattle.command_words.specs.declared.word.Word.{Word}
 use Rattle.command_words.specs.declared.word.Word.TheVariants.{Ping, Insert, Find}
 use Rattle.command_words.specs.declared.takes.Takes.{Takes}
 use Rattle.command_words.specs.declared.takes.Takes.TheVariants.{Text, Document, Documents, Unknown}
-use Rattle.command_words.specs.Body.{own_in, behind, is_document, text_of, pairs_of, made_or, field_or, sequence_of, documents_of}
+use Rattle.command_words.specs.Body.{own_in, is_document, text_of, pairs_of, made_or, field_or, sequence_of, documents_of}
 use Rattle.command_words.specs.Body.{names_of, has_twice, may_be_inserted}
 use Rattle.command_words.specs.Namespace.{is_database_name, is_collection_name}
 use Rattle.command_words.specs.Tables.{Field, commands, shape_of, may}
@@ -70,7 +70,7 @@ is_absent m it = it.required && is_none (first_of it.name m.body) && is_none (se
 -- a field behind the command's name, or a sequence, is none of the command's
 abbrev pub has_unknown : Word → Message → Bool
 has_unknown word m =
-    list_any (λ (it : Pair Value). is_unknown (takes_of word it.name)) (behind m.body)
+    list_any (λ (it : Pair Value). is_unknown (takes_of word it.name)) (drop 1 m.body)
     || list_any (λ (it : Sequence). is_unknown (takes_of word it.name)) m.sequences
 
 -- the database, and the collection that stands beside the command's name
@@ -95,7 +95,7 @@ rule_refusal Find m = when (nat_lt 0 (length (field_or [] pairs_of m.body (codes
 abbrev pub field_reasons : Word → Message → List (Option ℕ)
 field_reasons word m =
     made_or None (value_refusal (shape_of word).own) (own_in m.body)
-    ∷ fields_in word (behind m.body)
+    ∷ fields_in word (drop 1 m.body)
     ∷ sequences_in word m.sequences
     ∷ when (list_any (is_absent m) (shape_of word).fields) 14
     ∷ when (not (is_collection_name (db_of m) (coll_of m))) 27

@@ -1,6 +1,6 @@
-ghost use Rattle.std.specs.Prelude.{◌≡◌, []};
+ghost use Rattle.std.specs.Prelude.{◌≡◌, [], drop};
 ghost use Rattle.std.specs.Option.{option_copied};
-ghost use Rattle.command_words.specs.Body.{own_in, behind, made_or, text_of};
+ghost use Rattle.command_words.specs.Body.{own_in, made_or, text_of};
 ghost use Rattle.command_words.specs.Refusal.{word_in, db_of, coll_of};
 
 use crate::tables::word_of;
@@ -31,7 +31,7 @@ pub(crate) fn own_in(fields: &[Pair<Value>]) -> Option<&Value>
 
 /// The fields behind the command's name.
 pub(crate) fn behind(fields: &[Pair<Value>]) -> &[Pair<Value>]
-    ensures { result.now ≡ behind fields.now }
+    ensures { result.now ≡ drop 1 fields.now }
 {
     match fields {
         [_, others @ ..] => others,

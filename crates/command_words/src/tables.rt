@@ -112,7 +112,6 @@ fn find_word(rows: &[Name], name: &str) -> Option<Word>
 }
 
 /// The command of that name.
-#[tactic(auto, using(crate::proofs::Lookups::word_told))]
 pub(crate) fn word_of(name: &str) -> Option<Word>
     ensures { result ≡ option_map (λ it. it.1) (find (λ it. bytes_eq it.0 name.now) commands) }
 {
@@ -128,7 +127,6 @@ fn find_takes(rows: &[Row], name: &str) -> Option<Takes>
 }
 
 /// What the field of that name takes among the rows.
-#[tactic(auto, using(crate::proofs::Lookups::takes_told))]
 fn takes_among(rows: &[Row], name: &str) -> Takes
     ensures { result ≡ takes_among (map told rows.now) name.now }
 {

@@ -2,7 +2,7 @@ mod rows;
 mod samples;
 
 use crate::{Command, CommandRefused};
-use bson_values::{Document, NoMemory, Value};
+use bson_values::{Document, NoMemory, Space, Value};
 use bson_wire::Foreign;
 use doc_model::Op;
 use op_msg::Message;
@@ -43,55 +43,65 @@ fn each_refusal_has_its_kind(rt: HostRuntime) -> Result<(), Fail> {
 }
 
 /// What a message means whose command is on the collection `t.c`: a find, or an insert of a document with this `_id`.
-#[derive(Debug, PartialEq, Eq)]
-enum Meant {
+#[derive(Clone, Copy, Debug, PartialEq, Eq)]
+enum Asked {
     Ping,
     Insert(i64),
     Find,
     Other,
 }
 
-fn id_of(doc: &Document) -> Meant {
+fn id_of(doc: &Document) -> Asked {
     match (doc.len(), doc.pair(0)) {
-        (1, Some(("_id", Value::Int(id)))) => Meant::Insert(i64::from(*id)),
-        (1, Some(("_id", Value::Long(id)))) => Meant::Insert(*id),
-        _ => Meant::Other,
+        (1, Some(("_id", Value::Int(id)))) => Asked::Insert(i64::from(*id)),
+        (1, Some(("_id", Value::Long(id)))) => Asked::Insert(*id),
+        _ => Asked::Other,
     }
 }
 
-fn meant(alloc: Global, fields: Fields, beside: Sequences) -> Result<Meant, NoMemory> {
+fn done(op: &Op) -> Asked {
+    match op {
+        Op::Insert { space, doc } if is_on(space) => id_of(doc),
+        Op::Find { space } if is_on(space) => Asked::Find,
+        _ => Asked::Other,
+    }
+}
+
+fn is_on(space: &Space) -> bool {
+    space.db.as_str() == "t" && space.coll.as_str() == "c"
+}
+
+fn command_asks(command: &Command) -> Asked {
+    match command {
+        Command::Ping => Asked::Ping,
+        Command::Insert { op } => done(op),
+        Command::Find { op } => done(op),
+    }
+}
+
+fn meant(alloc: Global, fields: Fields, beside: Sequences) -> Result<Asked, NoMemory> {
     let message = message(alloc, fields, beside)?;
     match Command::read(alloc, message) {
-        Ok(Command::Ping) => Ok(Meant::Ping),
-        Ok(
-            Command::Insert {
-                op: Op::Insert { space, doc },
-            },
-        ) if space.db.as_str() == "t" && space.coll.as_str() == "c" => Ok(id_of(&doc)),
-        Ok(
-            Command::Find {
-                op: Op::Find { space },
-            },
-        ) if space.db.as_str() == "t" && space.coll.as_str() == "c" => Ok(Meant::Find),
-        _ => Ok(Meant::Other),
+        Ok(command) => Ok(command_asks(&command)),
+        Err(_) => Ok(Asked::Other),
     }
 }
 
 /// Messages, and what they mean: an insert by the array and by a sequence, a long as an `_id`, a find without a filter and with an
 /// empty one, a ping whatever stands beside it.
-static MEANT: [(Fields, Sequences, Meant); 7] = [
-    (INSERT, NOTHING, Meant::Insert(1)),
-    (INSERT_BESIDE, BESIDE, Meant::Insert(1)),
-    (INSERT_LONG, NOTHING, Meant::Insert(5_000_000_000)),
-    (FIND, NOTHING, Meant::Find),
-    (FIND_ALL, NOTHING, Meant::Find),
-    (PING, NOTHING, Meant::Ping),
-    (PING, UNKNOWN_BESIDE, Meant::Ping),
+static ACCEPTED: [(Fields, Sequences, Asked); 7] = [
+    (INSERT, NOTHING, Asked::Insert(1)),
+    (INSERT_BESIDE, BESIDE, Asked::Insert(1)),
+    (INSERT_LONG, NOTHING, Asked::Insert(5_000_000_000)),
+    (FIND, NOTHING, Asked::Find),
+    (FIND_ALL, NOTHING, Asked::Find),
+    (PING, NOTHING, Asked::Ping),
+    (PING, UNKNOWN_BESIDE, Asked::Ping),
 ];
 
 #[test]
 fn each_message_has_its_meaning(rt: HostRuntime) -> Result<(), Fail> {
-    for (fields, beside, wanted) in &MEANT {
+    for (fields, beside, wanted) in &ACCEPTED {
         assert!(rt; meant(rt.alloc(), fields, beside)? == *wanted);
     }
     Ok(())

@@ -6,4 +6,6 @@ use Rattle.command_words.specs.Told.{told}
 use Rattle.command_words.proofs.fields.lacks.Goals as goal
 
 pub returns : goal.returns
-returns c = c.lacks_among.ensures ∙ sym (any-mapped (is_absent c.args.message.now) told c.fields_of.result.now) ∙ ap (list_any (is_absent c.args.message.now)) c.fields_of.ensures
+returns c =
+    c.lacks_among.ensures ∙ sym (any-mapped (is_absent c.args.message.now) told c.fields_of.result.now)
+    ∙ ap (list_any (is_absent c.args.message.now)) c.fields_of.ensures

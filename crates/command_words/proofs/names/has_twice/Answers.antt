@@ -6,4 +6,5 @@ use Rattle.command_words.proofs.names.has_twice.Goals as goal
 
 pub returns-then-body_has_twice-clause-value : goal.returns-then-body_has_twice-clause-value
 returns-then-body_has_twice-clause-value c =
-    sym (twice_still (names c.args.message.now.body) (map (λ (it : Sequence). it.name) c.args.message.now.sequences) (sym c.body_has_twice.ensures ∙ c.if-body_has_twice.true))
+    sym (twice_still (names c.args.message.now.body) (map (λ (it : Sequence). it.name) c.args.message.now.sequences)
+    (sym c.body_has_twice.ensures ∙ c.if-body_has_twice.true))

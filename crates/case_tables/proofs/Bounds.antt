@@ -1,19 +1,16 @@
 -- How great the codes and how long the texts of refusals are.
-use Rattle.std.proofs.Common.{◌≡◌, ℕ, ◌≤◌, Bool, true, false, cond, eqb, leb, ◌&&◌, List, [], ◌∷◌, length, refl}
+use Rattle.std.proofs.Common.{◌≡◌, ℕ, ◌≤◌, Bool, true, false, cond, eqb, leb, List, [], ◌∷◌, length, refl}
 use Rattle.std.specs.List.{list_all}
 use Rattle.std.proofs.lemmas.Bool.{leb-true}
 use Rattle.case_tables.specs.Types.{types, type_name_of}
+use Rattle.std_words.proofs.Tests.{and-both}
 use Rattle.case_tables.specs.Refusals.{beside, kind_codes, kind_texts, error_codes, code_of, text_of, code_name_of}
-
-both : (one other : Bool) → (one && other) ≡ true → (one ≡ true) × (other ≡ true)
-both true other is = (refl, is)
-both false other is = absurd cc
 
 -- what holds of what stands for no row and of each row holds of what is found
 found : {A : Type 0} (test : A → Bool) (none : A) (number : ℕ) (rows : List (ℕ × A)) → test none ≡ true → list_all (λ (row : ℕ × A). test row.1) rows ≡ true → test (beside none number rows) ≡ true
 found test none number [] base all = base
 found {A} test none number (row ∷ rows) base all =
-    let parts = both (test row.1) (list_all (λ (it : ℕ × A). test it.1) rows) all in
+    let parts = and-both (test row.1) (list_all (λ (it : ℕ × A). test it.1) rows) all in
     pick test row.1 (beside none number rows) (eqb row.0 number) parts.0 (found test none number rows base parts.1)
   where
     pick : {A : Type 0} (test : A → Bool) (one other : A) (is : Bool) → test one ≡ true → test other ≡ true → test (cond is one other) ≡ true

@@ -12,8 +12,8 @@ pub struct Case {
 
 /// Rows of numbers and names, which are looked up from the first on.
 #[derive(Clone, Copy)]
-pub struct CaseTable<const N: usize> {
-    pub rows: [Case; N],
+pub struct CaseTable {
+    pub rows: &'static [Case],
 }
 
 /// Whether a row has the code or the name of this one.
@@ -45,73 +45,25 @@ fn find_name<'a>(rows: &'a [Case], name: &str) -> Option<&'a Case>
     rows.iter().find(|row| row.name == name)
 }
 
-// The methods stand once for each number of rows: over any number, rows that borrow their names get no proof.
-
-impl CaseTable<21> {
+impl CaseTable {
     /// Whether no code and no name stands twice.
     pub fn distinct(&self) -> bool
-        ensures { result ≡ is_distinct self.now.rows }
+        ensures { result ≡ is_distinct self.now.rows.now }
     {
-        are_distinct(&self.rows)
+        are_distinct(self.rows)
     }
 
     /// The first row of that code.
     pub fn by_code(&self, code: u32) -> Option<Case>
-        ensures { result ≡ row_of_code code self.now.rows }
+        ensures { result ≡ row_of_code code self.now.rows.now }
     {
-        find_code(&self.rows, code).copied()
+        find_code(self.rows, code).copied()
     }
 
     /// The first row of that name.
     pub fn by_name(&self, name: &str) -> Option<Case>
-        ensures { result ≡ row_of_name name.now self.now.rows }
+        ensures { result ≡ row_of_name name.now self.now.rows.now }
     {
-        find_name(&self.rows, name).copied()
-    }
-}
-
-impl CaseTable<34> {
-    /// Whether no code and no name stands twice.
-    pub fn distinct(&self) -> bool
-        ensures { result ≡ is_distinct self.now.rows }
-    {
-        are_distinct(&self.rows)
-    }
-
-    /// The first row of that code.
-    pub fn by_code(&self, code: u32) -> Option<Case>
-        ensures { result ≡ row_of_code code self.now.rows }
-    {
-        find_code(&self.rows, code).copied()
-    }
-
-    /// The first row of that name.
-    pub fn by_name(&self, name: &str) -> Option<Case>
-        ensures { result ≡ row_of_name name.now self.now.rows }
-    {
-        find_name(&self.rows, name).copied()
-    }
-}
-
-impl CaseTable<20> {
-    /// Whether no code and no name stands twice.
-    pub fn distinct(&self) -> bool
-        ensures { result ≡ is_distinct self.now.rows }
-    {
-        are_distinct(&self.rows)
-    }
-
-    /// The first row of that code.
-    pub fn by_code(&self, code: u32) -> Option<Case>
-        ensures { result ≡ row_of_code code self.now.rows }
-    {
-        find_code(&self.rows, code).copied()
-    }
-
-    /// The first row of that name.
-    pub fn by_name(&self, name: &str) -> Option<Case>
-        ensures { result ≡ row_of_name name.now self.now.rows }
-    {
-        find_name(&self.rows, name).copied()
+        find_name(self.rows, name).copied()
     }
 }

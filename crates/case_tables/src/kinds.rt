@@ -1,3 +1,5 @@
+use crate::case_table::{Case, CaseTable};
+
 /// The row number of a refusal in `KINDS`.
 pub type Kind = u32;
 
@@ -69,3 +71,72 @@ pub const TOO_MANY_CURSORS: Kind = 32;
 pub const NUMBERS_SPENT: Kind = 33;
 /// There are as many collections as there may be.
 pub const TOO_MANY_COLLECTIONS: Kind = 34;
+
+/// A kind of refusal, and the error code that is told with it.
+#[derive(Clone, Copy, Debug)]
+pub(crate) struct Coded {
+    pub(crate) kind: Kind,
+    pub(crate) code: u32,
+}
+
+/// The kinds as rows `kind => error code, sentence`, which it hands to a macro that takes what it wants of them.
+macro_rules! kinds {
+    ($rows:ident) => {
+        $rows! {
+            INTERNAL_ERROR => 1, "the store could not keep the change";
+            UNSUPPORTED_TYPE => 2, "unsupported BSON type";
+            UNKNOWN_OPERATOR => 2, "unknown operator";
+            BAD_OPERAND => 2, "bad operand";
+            BAD_ID => 2, "value cannot be an _id";
+            NOT_STORABLE => 2, "document cannot be stored";
+            NUMBER_OUT_OF_RANGE => 2, "number out of range";
+            FIELD_OUT_OF_RANGE => 2, "field value out of range";
+            BAD_PATH => 2, "bad path";
+            WRONG_OPERAND_TYPE => 2, "operator does not apply to the value";
+            BAD_PROJECTION => 2, "bad projection";
+            UNKNOWN_FIELD => 9, "unknown field";
+            FIELD_GIVEN_TWICE => 9, "field given twice";
+            FIELD_MISSING => 9, "field missing";
+            BAD_UPDATE => 9, "bad update";
+            FOREIGN_CURSOR => 13, "cursor belongs to another namespace";
+            WRONG_TYPE => 14, "field has the wrong type";
+            NOT_A_WHOLE_NUMBER => 14, "value is not a whole number";
+            NAMESPACE_NOT_FOUND => 26, "ns not found";
+            NAMESPACE_EXISTS => 48, "collection exists";
+            PATH_NOT_VIABLE => 28, "path cannot be created";
+            PATHS_CONFLICT => 40, "update paths conflict";
+            CURSOR_NOT_FOUND => 43, "cursor not found";
+            OUT_OF_MEMORY => 146, "out of memory";
+            NO_SUCH_COMMAND => 59, "no such command";
+            ID_CANNOT_CHANGE => 66, "_id cannot change";
+            INVALID_NAMESPACE => 73, "invalid namespace";
+            RESERVED => 10334, "reserved, same as 30";
+            NOT_SUPPORTED => 238, "not supported";
+            DOCUMENT_TOO_LARGE => 10334, "document too large";
+            DUPLICATE_KEY => 11000, "duplicate key";
+            TOO_MANY_CURSORS => 20001, "too many cursors";
+            NUMBERS_SPENT => 20002, "store numbers are spent";
+            TOO_MANY_COLLECTIONS => 20003, "too many collections";
+        }
+    };
+}
+
+macro_rules! sentences {
+    ($($kind:ident => $code:literal, $text:literal;)*) => {
+        &[$(Case { code: $kind, name: $text }),*]
+    };
+}
+
+macro_rules! error_codes {
+    ($($kind:ident => $code:literal, $text:literal;)*) => {
+        [$(Coded { kind: $kind, code: $code }),*]
+    };
+}
+
+/// The kinds of refusals, each with its sentence.
+pub const KINDS: CaseTable = CaseTable {
+    rows: kinds!(sentences),
+};
+
+/// The error code of each kind: MongoDB's, and from 20001 on this server's own.
+pub(crate) const CODED: [Coded; 34] = kinds!(error_codes);

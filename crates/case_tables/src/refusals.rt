@@ -4,9 +4,8 @@ ghost use Rattle.case_tables.specs.Types.{type_name_of};
 ghost use Rattle.case_tables.specs.Refusals.{beside, code_of, code_name_of, coded, text_of};
 
 use crate::case_table::Case;
-use crate::coded::{CODED, Coded};
-use crate::kinds::Kind;
-use crate::tables::{CODES, KINDS, TYPES};
+use crate::kinds::{CODED, Coded, KINDS, Kind};
+use crate::tables::{CODES, TYPES};
 
 fn code_in(rows: &[Coded], kind: Kind) -> u32
     ensures { result ≡ beside 0 kind (coded rows.now) }
@@ -52,7 +51,7 @@ pub fn code_of(kind: Kind) -> u32
 pub fn text_of(kind: Kind) -> &'static str
     ensures { result.now ≡ text_of kind }
 {
-    name_in(&KINDS.rows, kind)
+    name_in(KINDS.rows, kind)
 }
 
 /// The name of the type of BSON 1.1 that has this type byte; empty for a byte that is no type's.
@@ -60,7 +59,7 @@ pub fn text_of(kind: Kind) -> &'static str
 pub fn type_name_of(code: u32) -> &'static str
     ensures { result.now ≡ type_name_of code }
 {
-    name_in(&TYPES.rows, code)
+    name_in(TYPES.rows, code)
 }
 
 /// The name of a kind's error code; empty for a number that is no kind.
@@ -68,7 +67,7 @@ pub fn type_name_of(code: u32) -> &'static str
 pub fn code_name_of(kind: Kind) -> &'static str
     ensures { result.now ≡ code_name_of kind }
 {
-    name_in(&CODES.rows, code_of(kind))
+    name_in(CODES.rows, code_of(kind))
 }
 
 /// No code and no name stands twice in a table of this crate.

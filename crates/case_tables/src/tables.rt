@@ -1,15 +1,14 @@
 use crate::case_table::{Case, CaseTable};
-use crate::kinds::*;
 
 /// A table of rows `code => name`.
 macro_rules! table {
     ($($code:expr => $name:literal,)*) => {
-        CaseTable { rows: [$(Case { code: $code, name: $name }),*] }
+        CaseTable { rows: &[$(Case { code: $code, name: $name }),*] }
     };
 }
 
-/// The type byte of a type of BSON 1.1, by the name that `$type` has for it: `type_byte!(string)` is `0x02`. It is a pattern or a value.
-/// Minkey's byte -1 is `0xff` here.
+/// The type byte of a type of BSON 1.1, by the name that `$type` has for it: `type_byte!(string)` is `0x02`.
+/// It is a pattern or a value. Minkey's byte -1 is `0xff` here.
 #[macro_export]
 macro_rules! type_byte {
     (double) => { 0x01 };
@@ -38,12 +37,12 @@ macro_rules! type_byte {
 /// Rows of the types of these names.
 macro_rules! types {
     ($($name:ident,)*) => {
-        CaseTable { rows: [$(Case { code: type_byte!($name), name: stringify!($name) }),*] }
+        CaseTable { rows: &[$(Case { code: type_byte!($name), name: stringify!($name) }),*] }
     };
 }
 
 /// The types of BSON 1.1, each with its type byte and its name.
-pub const TYPES: CaseTable<21> = types! {
+pub const TYPES: CaseTable = types! {
     double,
     string,
     object,
@@ -67,46 +66,8 @@ pub const TYPES: CaseTable<21> = types! {
     maxKey,
 };
 
-/// The kinds of refusals, each with its sentence.
-pub const KINDS: CaseTable<34> = table! {
-    INTERNAL_ERROR => "the store could not keep the change",
-    UNSUPPORTED_TYPE => "unsupported BSON type",
-    UNKNOWN_OPERATOR => "unknown operator",
-    BAD_OPERAND => "bad operand",
-    BAD_ID => "value cannot be an _id",
-    NOT_STORABLE => "document cannot be stored",
-    NUMBER_OUT_OF_RANGE => "number out of range",
-    FIELD_OUT_OF_RANGE => "field value out of range",
-    BAD_PATH => "bad path",
-    WRONG_OPERAND_TYPE => "operator does not apply to the value",
-    BAD_PROJECTION => "bad projection",
-    UNKNOWN_FIELD => "unknown field",
-    FIELD_GIVEN_TWICE => "field given twice",
-    FIELD_MISSING => "field missing",
-    BAD_UPDATE => "bad update",
-    FOREIGN_CURSOR => "cursor belongs to another namespace",
-    WRONG_TYPE => "field has the wrong type",
-    NOT_A_WHOLE_NUMBER => "value is not a whole number",
-    NAMESPACE_NOT_FOUND => "ns not found",
-    NAMESPACE_EXISTS => "collection exists",
-    PATH_NOT_VIABLE => "path cannot be created",
-    PATHS_CONFLICT => "update paths conflict",
-    CURSOR_NOT_FOUND => "cursor not found",
-    OUT_OF_MEMORY => "out of memory",
-    NO_SUCH_COMMAND => "no such command",
-    ID_CANNOT_CHANGE => "_id cannot change",
-    INVALID_NAMESPACE => "invalid namespace",
-    RESERVED => "reserved, same as 30",
-    NOT_SUPPORTED => "not supported",
-    DOCUMENT_TOO_LARGE => "document too large",
-    DUPLICATE_KEY => "duplicate key",
-    TOO_MANY_CURSORS => "too many cursors",
-    NUMBERS_SPENT => "store numbers are spent",
-    TOO_MANY_COLLECTIONS => "too many collections",
-};
-
 /// MongoDB's error codes, each with its code name. Those from 20001 on are this server's own.
-pub const CODES: CaseTable<20> = table! {
+pub const CODES: CaseTable = table! {
     1 => "InternalError",
     2 => "BadValue",
     9 => "FailedToParse",

@@ -14,19 +14,23 @@ fn types_are_found_by_code_and_by_name(rt: HostRuntime) -> Result<(), Fail> {
     Ok(())
 }
 
+/// Rows `code => name`.
+macro_rules! rows {
+    ($($code:literal => $name:literal),*) => {
+        [$(Case { code: $code, name: $name }),*]
+    };
+}
+
+static ONE_CODE: [Case; 3] = rows!(1 => "double", 1 => "string", 3 => "object");
+
+static ONE_NAME: [Case; 3] = rows!(1 => "double", 2 => "double", 3 => "object");
+
 #[test]
 fn the_first_row_is_found_where_two_clash(rt: HostRuntime) -> Result<(), Fail> {
-    let mut table = TYPES;
-    table.rows[1] = Case {
-        code: 1,
-        name: "string",
-    };
+    let table = CaseTable { rows: &ONE_CODE };
     assert!(rt; !table.distinct(), "one code twice");
     assert!(rt; matches!(table.by_code(1), Some(Case { name: "double", .. })));
-    table.rows[1] = Case {
-        code: 2,
-        name: "double",
-    };
+    let table = CaseTable { rows: &ONE_NAME };
     assert!(rt; !table.distinct(), "one name twice");
     assert!(rt; matches!(table.by_name("double"), Some(Case { code: 1, .. })));
     Ok(())

@@ -1,1 +1,3 @@
-pub mod Mapped
+pub mod Lookups
+pub mod Named
+pub mod Twice

@@ -1,73 +1,75 @@
--- The body of a command: its first field has the command's name, and its other fields say what the command works on.
-use Rattle.std.specs.Prelude.{ℕ, Bool, true, false, if◌then◌else◌, List, [], ◌∷◌, Option, None, Some, codes}
-use Rattle.std.specs.List.{list_all}
+-- What stands in a message: its first field has the command's name, the others and the sequences say what it works on.
+use Rattle.std.specs.Prelude.{ℕ, Bool, true, false, ◌&&◌, ◌||◌, List, [], ◌∷◌}
+use Rattle.std.specs.Prelude.{◌++◌, Option, None, Some, map, find, option_map, is_ok, codes}
+use Rattle.std.specs.Option.{option_or, unwrap_or}
 use Rattle.std.specs.Str.{bytes_eq}
 use Rattle.bson_values.specs.declared.pairs.Pair.{Pair}
 use Rattle.bson_values.specs.declared.value.Value.{Value}
 use Rattle.bson_values.specs.declared.value.Value.TheViews.{out-Value}
 use Rattle.bson_values.specs.declared.value.Value.TheOpen.{Value-F}
 use Rattle.bson_values.specs.Names.{first_of}
-use Rattle.command_words.specs.declared.word.Word.{Word}
-use Rattle.command_words.specs.declared.word.Word.TheVariants.{Ping, Insert, Find}
-
--- the commands
-abbrev pub word_of : List ℕ → Option Word
-word_of name =
-    if bytes_eq name (codes "ping") then Some Ping
-    else if bytes_eq name (codes "insert") then Some Insert
-    else if bytes_eq name (codes "find") then Some Find
-    else None
-
--- the command that the first field names
-abbrev pub word_in : List (Pair Value) → Option Word
-word_in [] = None
-word_in (field ∷ fields) = word_of field.name
+use Rattle.bson_values.specs.Storable.{names, stands, storable}
+use Rattle.op_msg.specs.declared.message.Message.{Message}
+use Rattle.op_msg.specs.declared.message.Sequence.{Sequence}
 
 -- the value that stands beside the command's name
 abbrev pub own_in : List (Pair Value) → Option Value
 own_in [] = None
 own_in (field ∷ fields) = Some field.value
 
--- the value of the field of that name
-abbrev pub field_of : List (Pair Value) → List ℕ → Option Value
-field_of body name = first_of name body
-
--- a value is there, and passes the test
-abbrev pub is_given : (Value-F Value → Bool) → Option Value → Bool
-is_given test None = false
-is_given test (Some it) = test (out-Value it)
-
--- a value passes the test, where it is there
-abbrev pub may_be : (Value-F Value → Bool) → Option Value → Bool
-may_be test None = true
-may_be test (Some it) = test (out-Value it)
-
--- a string
-abbrev pub is_text : Value-F Value → Bool
-is_text (Value-F.Str text) = true
-is_text _ = false
-
 -- a document
 abbrev pub is_document : Value-F Value → Bool
 is_document (Value-F.Doc pairs) = true
 is_document _ = false
-
--- an array of documents
-abbrev pub are_documents : Value-F Value → Bool
-are_documents (Value-F.Arr items) = list_all (λ item. is_document (out-Value item)) items
-are_documents _ = false
-
--- the document `{}`
-abbrev pub is_empty : Value-F Value → Bool
-is_empty (Value-F.Doc []) = true
-is_empty _ = false
 
 -- the string that the value is
 abbrev pub text_of : Value-F Value → List ℕ
 text_of (Value-F.Str text) = text
 text_of _ = []
 
--- the same of one that may be absent
-abbrev pub text_in : Option Value → List ℕ
-text_in None = []
-text_in (Some it) = text_of (out-Value it)
+-- the document that the value is
+abbrev pub pairs_of : Value-F Value → List (Pair Value)
+pairs_of (Value-F.Doc pairs) = pairs
+pairs_of _ = []
+
+-- the documents of the array that the value is
+abbrev pub documents_in : Value-F Value → List (List (Pair Value))
+documents_in (Value-F.Arr items) = map (λ item. pairs_of (out-Value item)) items
+documents_in _ = []
+
+-- what one makes of the value, or what stands for none
+abbrev pub made_or : {A : Type 0} → A → (Value-F Value → A) → Option Value → A
+made_or none make value = unwrap_or (option_map (λ it. make (out-Value it)) value) none
+
+-- what one makes of the field of that name, or what stands for none
+abbrev pub field_or : {A : Type 0} → A → (Value-F Value → A) → List (Pair Value) → List ℕ → A
+field_or none make fields name = made_or none make (first_of name fields)
+
+-- the documents of the sequence of that name
+abbrev pub sequence_of : Message → List ℕ → Option (List (List (Pair Value)))
+sequence_of m name = option_map (λ (it : Sequence). it.docs) (find (λ (it : Sequence). bytes_eq it.name name) m.sequences)
+
+-- documents: those of the field of that name, where it is given, else those of the sequence
+abbrev pub documents_of : Message → List ℕ → List (List (Pair Value))
+documents_of m name = unwrap_or (option_or (option_map (λ it. documents_in (out-Value it)) (first_of name m.body)) (sequence_of m name)) []
+
+-- the names of the body's fields, then those of the sequences
+abbrev pub names_of : Message → List (List ℕ)
+names_of m = names m.body ++ map (λ (it : Sequence). it.name) m.sequences
+
+-- two of the names are one
+abbrev pub has_twice : List (List ℕ) → Bool
+has_twice [] = false
+has_twice (name ∷ more) = stands more name || has_twice more
+
+-- neither an array nor a regex: MongoDB manual, "The _id Field"
+abbrev pub can_be_id : Value-F Value → Bool
+can_be_id (Value-F.Arr items) = false
+can_be_id (Value-F.Regex regex) = false
+can_be_id _ = true
+
+-- one document, its `_id` first, and such as may be stored
+abbrev pub may_be_inserted : List (List (Pair Value)) → Bool
+may_be_inserted ((field ∷ fields) ∷ []) =
+    bytes_eq field.name (codes "_id") && can_be_id (out-Value field.value) && is_ok (storable (field ∷ fields))
+may_be_inserted _ = false

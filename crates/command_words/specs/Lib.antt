@@ -1,7 +1,6 @@
 pub mod Namespace
 pub mod Body
-pub mod Names
-pub mod Items
+pub mod Tables
 pub mod Refusal
 pub mod Meaning
-pub mod Lent
+pub mod Told

@@ -1,5 +1,5 @@
 -- What a message asks for that is not refused.
-use Rattle.std.specs.Prelude.{ℕ, ◌≡◌, true, List, [], Option, Some, codes}
+use Rattle.std.specs.Prelude.{◌≡◌, true, List, [], option_map, slice_get, codes}
 use Rattle.std.specs.Option.{unwrap_or}
 use Rattle.bson_values.specs.declared.space.Space.{Space}
 use Rattle.doc_model.specs.declared.op.Op.{Op}
@@ -8,32 +8,24 @@ use Rattle.op_msg.specs.declared.message.Message.{Message}
 use Rattle.command_words.specs.declared.command.Command.{Command}
 use Rattle.command_words.specs.declared.command.Command.TheVariants as command
 use Rattle.command_words.specs.declared.word.Word.{Word}
-use Rattle.command_words.specs.declared.word.Word.TheVariants.{Insert, Find}
-use Rattle.command_words.specs.Body.{word_in, own_in, field_of, text_in}
-use Rattle.command_words.specs.Items.{inserted}
+use Rattle.command_words.specs.declared.word.Word.TheVariants.{Ping, Insert, Find}
+use Rattle.command_words.specs.Body.{documents_of}
 use Rattle.command_words.specs.Namespace.{is_database_name, is_collection_name}
+use Rattle.command_words.specs.Refusal.{word_in, db_of, coll_of}
 
--- the collection that stands beside the command's name, in that database
-abbrev pub space_in : List ℕ → Message → Space
-space_in db m = record { db = db; coll = text_in (own_in m.body) }
+-- the collection that stands beside the command's name, in the message's database
+unfoldable pub space_of : Message → Space
+space_of m = record { db = db_of m; coll = coll_of m }
 
--- what an insert into that database means
-abbrev pub insert_in : List ℕ → Message → Command
-insert_in db m = command.Insert (op.Insert (space_in db m) (unwrap_or (inserted m) []))
-
--- what a find means
-abbrev pub find_in : List ℕ → Message → Command
-find_in db m = command.Find (op.Find (space_in db m))
-
--- by the command's name
-abbrev pub command_by : Option Word → List ℕ → Message → Command
-command_by (Some Insert) db m = insert_in db m
-command_by (Some Find) db m = find_in db m
-command_by _ db m = command.Ping
+-- by the command; an insert inserts the first of its documents
+abbrev pub meaning : Word → Message → Command
+meaning Ping m = command.Ping
+meaning Insert m = command.Insert (op.Insert (space_of m) (unwrap_or (slice_get (documents_of m (codes "documents")) 0) []))
+meaning Find m = command.Find (op.Find (space_of m))
 
 -- what a message means that is not refused
 abbrev pub command_of : Message → Command
-command_of m = command_by (word_in m.body) (text_in (field_of m.body (codes "$db"))) m
+command_of m = unwrap_or (option_map (λ word. meaning word m) (word_in m.body)) command.Ping
 
 -- the names of its space are such as a database and a collection may have
 abbrev pub IsNamed : Space → Type 0

@@ -1,23 +1,13 @@
-ghost use Rattle.std.specs.Prelude.{◌≡◌};
+ghost use Rattle.std.specs.Prelude.{◌≡◌, [], drop};
 ghost use Rattle.std.specs.Option.{option_copied};
-ghost use Rattle.command_words.specs.Body.{word_of, word_in, own_in};
+ghost use Rattle.command_words.specs.Body.{own_in, made_or, text_of};
+ghost use Rattle.command_words.specs.Refusal.{word_in, db_of, coll_of};
 
+use crate::tables::word_of;
+use crate::values::text_of;
 use crate::word::Word;
 use bson_values::{Pair, Value};
-
-fn word_of(name: &str) -> Option<Word>
-    ensures { result ≡ word_of name.now }
-{
-    if name == "ping" {
-        Some(Word::Ping)
-    } else if name == "insert" {
-        Some(Word::Insert)
-    } else if name == "find" {
-        Some(Word::Find)
-    } else {
-        None
-    }
-}
+use op_msg::Message;
 
 /// The command that the first field names.
 pub(crate) fn word_in(fields: &[Pair<Value>]) -> Option<Word>
@@ -37,4 +27,38 @@ pub(crate) fn own_in(fields: &[Pair<Value>]) -> Option<&Value>
         [field, ..] => Some(&field.value),
         [] => None,
     }
+}
+
+/// The fields behind the command's name.
+pub(crate) fn behind(fields: &[Pair<Value>]) -> &[Pair<Value>]
+    ensures { result.now ≡ drop 1 fields.now }
+{
+    match fields {
+        [_, others @ ..] => others,
+        [] => fields,
+    }
+}
+
+/// The text, or an empty one.
+fn text_or_none(value: Option<&Value>) -> &str
+    ensures { result.now ≡ made_or [] text_of (option_copied value.entry) }
+{
+    match value {
+        Some(value) => text_of(value),
+        None => "",
+    }
+}
+
+/// The name of the database.
+pub(crate) fn db_of(message: &Message) -> &str
+    ensures { result.now ≡ db_of message.now }
+{
+    text_or_none(message.body.get("$db"))
+}
+
+/// The name of the collection that stands beside the command's name.
+pub(crate) fn coll_of(message: &Message) -> &str
+    ensures { result.now ≡ coll_of message.now }
+{
+    text_or_none(own_in(message.body.as_slice()))
 }

@@ -3,11 +3,14 @@
 
 mod body;
 mod command;
-mod items;
+mod documents;
+mod fields;
 mod names;
 mod namespace;
+mod refusal;
 mod refused;
-mod request;
+mod tables;
+mod takes;
 mod values;
 mod word;
 

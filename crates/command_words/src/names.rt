@@ -1,91 +1,92 @@
-ghost use Rattle.std.specs.Prelude.{◌≡◌, ◌++◌};
-ghost use Rattle.std.specs.List.{list_any, list_all};
-ghost use Rattle.std.specs.Str.{bytes_eq};
+ghost use Rattle.std.specs.Prelude.{◌≡◌, ◌<◌, ◌∷◌, ◌++◌, [], false, length, map, take, IfOk, OnOk, OnErr};
 ghost use Rattle.bson_values.specs.Storable.{names, stands};
-ghost use Rattle.command_words.specs.Names.{sequence_names, names_of, has_twice, takes, takes_all};
+ghost use Rattle.command_words.specs.Body.{names_of, has_twice};
 
-use crate::word::Word;
-use bson_values::{Pair, Value};
+use bson_values::{Document, NoMemory, Text, Value};
 use op_msg::{Message, Sequence};
+use std::alloc::Global;
 
-fn names_a_field(name: &str, fields: &[Pair<Value>]) -> bool
-    ensures { result ≡ list_any (λ field. bytes_eq field.name name.now) fields.now }
+/// Whether the name stands before that place.
+fn stands_before(document: &Document, place: usize, name: &str) -> bool
+    ensures { result ≡ stands (take place (names document.now)) name.now }
 {
-    fields.iter().any(|field| field.name.as_str() == name)
+    match document.place(name) {
+        Some(first) => first < place,
+        None => false,
+    }
 }
 
-fn names_a_sequence(name: &str, sequences: &[Sequence]) -> bool
-    ensures { result ≡ list_any (λ sequence. bytes_eq sequence.name name.now) sequences.now }
+/// Whether the name stands in the document.
+fn stands_in(document: &Document, name: &str) -> bool
+    ensures { result ≡ stands (names document.now) name.now }
 {
-    sequences
-        .iter()
-        .any(|sequence| sequence.name.as_str() == name)
+    match document.place(name) {
+        Some(_) => true,
+        None => false,
+    }
 }
 
-#[tactic(auto, using(crate::proofs::Mapped::named_by_either))]
-fn names_either(name: &str, fields: &[Pair<Value>], sequences: &[Sequence]) -> bool
-    ensures { result ≡ stands (names fields.now ++ sequence_names sequences.now) name.now }
+/// Whether two fields have one name. Each name is looked up once, in the document's index.
+fn body_has_twice(body: &Document) -> bool
+    ensures { result ≡ has_twice (names body.now) }
 {
-    names_a_field(name, fields) || names_a_sequence(name, sequences)
-}
-
-fn has_sequences_twice(sequences: &[Sequence]) -> bool
-    ensures { result ≡ has_twice (sequence_names sequences.now) }
-{
-    let mut rest = sequences;
-    while let [sequence, others @ ..] = rest {
-        if names_either(sequence.name.as_str(), &[], others) {
+    for (place, field) in body.as_slice().iter().enumerate() {
+        if stands_before(body, place, field.name.as_str()) {
             return true;
         }
-        rest = others;
     }
     false
 }
 
-/// Whether two of the names that the message gives are one. It takes no memory, and time that grows with the square of their number.
-pub(crate) fn has_twice(message: &Message) -> bool
-    ensures { result ≡ has_twice (names_of message.now) }
+#[tactic(auto, using(crate::proofs::Twice::stands_either))]
+fn stands_in_either(body: &Document, seen: &Document, name: &str) -> bool
+    ensures { result ≡ stands (names body.now ++ names seen.now) name.now }
 {
-    let sequences = message.sequences.as_slice();
-    let mut rest = message.body.as_slice();
-    while let [field, others @ ..] = rest {
-        if names_either(field.name.as_str(), others, sequences) {
-            return true;
+    stands_in(body, name) || stands_in(seen, name)
+}
+
+/// Adds a name to those that were seen.
+fn see(alloc: Global, seen: &mut Document, name: &Text) -> Result<(), NoMemory>
+    ensures { OnOk result (names seen.new ≡ names seen.old ++ name.now ∷ []) }
+{
+    let name = name.copy(alloc)?;
+    match seen.push(name, Value::Null) {
+        Ok(()) => Ok(()),
+        Err(_) => Err(NoMemory),
+    }
+}
+
+/// Whether a sequence has the name of a field, of which no two are one, or of another sequence.
+fn sequences_have_twice(
+    alloc: Global,
+    body: &Document,
+    sequences: &[Sequence],
+) -> Result<bool, NoMemory>
+    requires { has_twice (names body.now) ≡ false }
+    ensures value { IfOk result (λ is. is ≡ has_twice (names body.now ++ map (λ it. it.name) sequences.now)) }
+    ensures wanting { OnErr result (1 < length sequences.now) }
+{
+    // The names of the sequences so far, as a document with an index of its names.
+    let mut seen = Document::new(alloc);
+    for (place, sequence) in sequences.iter().enumerate() {
+        if stands_in_either(body, &seen, sequence.name.as_str()) {
+            return Ok(true);
         }
-        rest = others;
+        if sequences.len() - place == 1 {
+            return Ok(false);
+        }
+        see(alloc, &mut seen, &sequence.name)?;
     }
-    has_sequences_twice(sequences)
+    Ok(false)
 }
 
-fn takes(word: Word, name: &str) -> bool
-    ensures { result ≡ takes word name.now }
+/// Whether two of the names that the message gives are one. It takes memory only to compare the names of several sequences.
+pub(crate) fn has_twice(alloc: Global, message: &Message) -> Result<bool, NoMemory>
+    ensures value { IfOk result (λ is. is ≡ has_twice (names_of message.now)) }
+    ensures wanting { OnErr result (1 < length message.now.sequences) }
 {
-    match word {
-        Word::Ping => true,
-        Word::Insert => name == "insert" || name == "$db" || name == "documents",
-        Word::Find => name == "find" || name == "$db" || name == "filter",
+    if body_has_twice(&message.body) {
+        return Ok(true);
     }
-}
-
-fn takes_fields(word: Word, fields: &[Pair<Value>]) -> bool
-    ensures { result ≡ list_all (λ field. takes word field.name) fields.now }
-{
-    fields.iter().all(|field| takes(word, field.name.as_str()))
-}
-
-fn takes_sequences(word: Word, sequences: &[Sequence]) -> bool
-    ensures { result ≡ list_all (λ sequence. takes word sequence.name) sequences.now }
-{
-    sequences
-        .iter()
-        .all(|sequence| takes(word, sequence.name.as_str()))
-}
-
-/// Whether the command takes all names that the message gives.
-#[tactic(auto, using(crate::proofs::Mapped::taken_of_both))]
-pub(crate) fn takes_all(word: Word, message: &Message) -> bool
-    ensures { result ≡ takes_all word message.now }
-{
-    takes_fields(word, message.body.as_slice())
-        && takes_sequences(word, message.sequences.as_slice())
+    sequences_have_twice(alloc, &message.body, message.sequences.as_slice())
 }

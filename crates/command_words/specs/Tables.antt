@@ -1,0 +1,37 @@
+-- The commands, and the fields of each.
+use Prim.Native.String.{String}
+use Rattle.std.specs.Prelude.{ℕ, Bool, true, false, List, [], ◌∷◌, codes}
+use Rattle.command_words.specs.declared.word.Word.{Word}
+use Rattle.command_words.specs.declared.word.Word.TheVariants.{Ping, Insert, Find}
+use Rattle.command_words.specs.declared.takes.Takes.{Takes}
+use Rattle.command_words.specs.declared.takes.Takes.TheVariants.{Anything, Text, Document, Documents}
+
+-- a field, what it takes, and whether it has to be there
+pub record Field : Type 0 where
+  pub name : List ℕ
+  pub takes : Takes
+  pub required : Bool
+
+-- what stands beside a command's name, its other fields, and whether nothing further is looked at
+pub record Shape : Type 0 where
+  pub own : Takes
+  pub fields : List Field
+  pub free : Bool
+
+abbrev pub may : Takes → String → Field
+may takes name = record { name = codes name; takes = takes; required = false }
+
+abbrev pub must : Takes → String → Field
+must takes name = record { name = codes name; takes = takes; required = true }
+
+-- the name of a collection, and these fields
+abbrev pub on_coll : List Field → Shape
+on_coll fields = record { own = Text; fields = fields; free = false }
+
+unfoldable pub commands : List (List ℕ × Word)
+commands = (codes "ping", Ping) ∷ (codes "insert", Insert) ∷ (codes "find", Find) ∷ []
+
+unfoldable pub shape_of : Word → Shape
+shape_of Ping = record { own = Anything; fields = []; free = true }
+shape_of Insert = on_coll (must Documents "documents" ∷ [])
+shape_of Find = on_coll (may Document "filter" ∷ [])

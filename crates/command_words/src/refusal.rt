@@ -1,0 +1,100 @@
+ghost use Rattle.std.specs.Prelude.{◌≡◌, [], true, IfNone, nat_lt, length, codes};
+ghost use Rattle.command_words.specs.Body.{field_or, pairs_of};
+ghost use Rattle.std_words.specs.Reasons.{first};
+ghost use Rattle.command_words.specs.Namespace.{is_collection_name};
+ghost use Rattle.command_words.specs.Refusal.{db_of, coll_of, rule_refusal, field_reasons};
+ghost use Rattle.command_words.specs.Told.{Asks};
+
+use crate::body::{behind, coll_of, db_of, word_in};
+use crate::documents::may_be_inserted;
+use crate::fields::{self, has_unknown, lacks, own_refusal, sequences_refusal};
+use crate::names::has_twice;
+use crate::namespace::{is_collection_name, is_database_name};
+use crate::refused::CommandRefused;
+use crate::tables::is_free;
+use crate::values::pairs_of;
+use crate::word::Word;
+use bson_values::Value;
+use case_tables::{
+    FIELD_GIVEN_TWICE, FIELD_MISSING, INVALID_NAMESPACE, Kind, NO_SUCH_COMMAND, NOT_SUPPORTED,
+    UNSUPPORTED_TYPE, WRONG_TYPE,
+};
+use op_msg::Message;
+use std::alloc::Global;
+
+/// Whether there is a filter that is not empty.
+fn has_filter(message: &Message) -> bool
+    ensures { result ≡ nat_lt 0 (length (field_or [] pairs_of message.now.body (codes "filter"))) }
+{
+    match message.body.get("filter") {
+        Some(value) => 0 < pairs_of(value).len(),
+        None => false,
+    }
+}
+
+/// What a command does not do yet.
+fn rule_refusal(word: Word, message: &Message) -> Option<Kind>
+    ensures { result ≡ rule_refusal word message.now }
+{
+    match word {
+        Word::Insert if !may_be_inserted(message, "documents") => Some(NOT_SUPPORTED),
+        Word::Find if has_filter(message) => Some(NOT_SUPPORTED),
+        _ => None,
+    }
+}
+
+fn field_refusal(word: Word, message: &Message) -> Option<Kind>
+    ensures value { result ≡ first (field_reasons word message.now) }
+    ensures named { IfNone result (is_collection_name (db_of message.now) (coll_of message.now) ≡ true) }
+{
+    if let Some(kind) = own_refusal(word, message) {
+        return Some(kind);
+    }
+    if let Some(kind) = fields::fields_refusal(word, behind(message.body.as_slice())) {
+        return Some(kind);
+    }
+    if let Some(kind) = sequences_refusal(word, message.sequences.as_slice()) {
+        return Some(kind);
+    }
+    if lacks(word, message) {
+        return Some(FIELD_MISSING);
+    }
+    if !is_collection_name(db_of(message), coll_of(message)) {
+        return Some(INVALID_NAMESPACE);
+    }
+    if has_unknown(word, message) {
+        return Some(NOT_SUPPORTED);
+    }
+    rule_refusal(word, message)
+}
+
+/// The command that the message asks for, or why it is refused.
+pub(crate) fn asked(alloc: Global, message: &Message) -> Result<Word, CommandRefused>
+    ensures { Asks message.now result }
+{
+    if message.foreign.is_some() {
+        return Err(CommandRefused::Refused(UNSUPPORTED_TYPE));
+    }
+    let Some(word) = word_in(message.body.as_slice()) else {
+        return Err(CommandRefused::Refused(NO_SUCH_COMMAND));
+    };
+    if has_twice(alloc, message)? {
+        return Err(CommandRefused::Refused(FIELD_GIVEN_TWICE));
+    }
+    let Some(db) = message.body.get("$db") else {
+        return Err(CommandRefused::Refused(FIELD_MISSING));
+    };
+    let Value::Str(db) = db else {
+        return Err(CommandRefused::Refused(WRONG_TYPE));
+    };
+    if !is_database_name(db.as_str()) {
+        return Err(CommandRefused::Refused(INVALID_NAMESPACE));
+    }
+    if is_free(word) {
+        return Ok(word);
+    }
+    match field_refusal(word, message) {
+        Some(kind) => Err(CommandRefused::Refused(kind)),
+        None => Ok(word),
+    }
+}

@@ -1,0 +1,144 @@
+ghost use Rattle.std.specs.Prelude.{◌≡◌, map, find, option_map};
+ghost use Rattle.std.specs.Str.{bytes_eq};
+ghost use Rattle.command_words.specs.Tables.{shape_of, commands};
+ghost use Rattle.command_words.specs.Refusal.{takes_among, takes_of};
+ghost use Rattle.command_words.specs.Told.{told, shape_told};
+
+use crate::takes::Takes;
+use crate::word::Word;
+
+/// The name of a command.
+#[derive(Clone, Copy)]
+pub(crate) struct Name {
+    name: &'static str,
+    word: Word,
+}
+
+/// A field, what it takes, and whether it has to be there.
+#[derive(Clone, Copy)]
+pub(crate) struct Row {
+    pub(crate) name: &'static str,
+    pub(crate) takes: Takes,
+    pub(crate) required: bool,
+}
+
+/// What stands beside a command's name, its other fields, and whether nothing further is looked at.
+#[derive(Clone, Copy)]
+pub(crate) struct Table {
+    own: Takes,
+    fields: &'static [Row],
+    free: bool,
+}
+
+/// The table of a command: what stands beside its name, and its fields as `may "name": Takes`, or `must` of one that has to be there.
+macro_rules! table {
+    (@required may) => { false };
+    (@required must) => { true };
+    ($own:ident { $($how:ident $name:literal: $takes:ident),* $(,)? }) => {
+        Table {
+            own: Takes::$own,
+            fields: &[$(Row { name: $name, takes: Takes::$takes, required: table!(@required $how) }),*],
+            free: false,
+        }
+    };
+}
+
+/// Rows of names, as `"name" => Word`.
+macro_rules! commands {
+    ($($name:literal => $word:ident),* $(,)?) => {
+        [$(Name { name: $name, word: Word::$word }),*]
+    };
+}
+
+static COMMANDS: [Name; 3] = commands! {
+    "ping" => Ping,
+    "insert" => Insert,
+    "find" => Find,
+};
+
+static FREE: Table = Table {
+    own: Takes::Anything,
+    fields: &[],
+    free: true,
+};
+
+static INSERT: Table = table! { Text { must "documents": Documents } };
+
+static FIND: Table = table! { Text { may "filter": Document } };
+
+#[tactic(auto, unfolding(crate::specs::Tables::commands))]
+fn commands() -> &'static [Name]
+    ensures { map (λ row. (row.name.now, row.word)) result.now ≡ commands }
+{
+    &COMMANDS
+}
+
+#[tactic(auto, unfolding(crate::specs::Tables::shape_of))]
+fn table_of(word: Word) -> &'static Table
+    ensures { shape_told result.now ≡ shape_of word }
+{
+    match word {
+        Word::Ping => &FREE,
+        Word::Insert => &INSERT,
+        Word::Find => &FIND,
+    }
+}
+
+/// The fields of a command.
+pub(crate) fn fields_of(word: Word) -> &'static [Row]
+    ensures { map told result.now ≡ (shape_of word).fields }
+{
+    table_of(word).fields
+}
+
+/// What stands beside the command's name.
+pub(crate) fn own_of(word: Word) -> Takes
+    ensures { result ≡ (shape_of word).own }
+{
+    table_of(word).own
+}
+
+/// Whether nothing further is looked at.
+pub(crate) fn is_free(word: Word) -> bool
+    ensures { result ≡ (shape_of word).free }
+{
+    table_of(word).free
+}
+
+fn find_word(rows: &[Name], name: &str) -> Option<Word>
+    ensures { result ≡ option_map (λ row. row.word) (find (λ row. bytes_eq row.name.now name.now) rows.now) }
+{
+    rows.iter().find(|row| row.name == name).map(|row| row.word)
+}
+
+/// The command of that name.
+pub(crate) fn word_of(name: &str) -> Option<Word>
+    ensures { result ≡ option_map (λ it. it.1) (find (λ it. bytes_eq it.0 name.now) commands) }
+{
+    find_word(commands(), name)
+}
+
+fn find_takes(rows: &[Row], name: &str) -> Option<Takes>
+    ensures { result ≡ option_map (λ row. row.takes) (find (λ row. bytes_eq row.name.now name.now) rows.now) }
+{
+    rows.iter()
+        .find(|row| row.name == name)
+        .map(|row| row.takes)
+}
+
+/// What the field of that name takes among the rows.
+fn takes_among(rows: &[Row], name: &str) -> Takes
+    ensures { result ≡ takes_among (map told rows.now) name.now }
+{
+    find_takes(rows, name).unwrap_or(Takes::Unknown)
+}
+
+/// What the field of a command takes.
+pub(crate) fn takes_of(word: Word, name: &str) -> Takes
+    ensures { result ≡ takes_of word name.now }
+{
+    if name == "$db" {
+        return Takes::Text;
+    }
+    takes_among(fields_of(word), name)
+}

@@ -12,8 +12,8 @@ use Rattle.std.proofs.lemmas.Slice.Eq.{bytes_eq-Decides}
 use Rattle.std_words.proofs.Tests.{never-both, or-first, or-second, or-either, or-not-first, or-not-second, or-neither}
 use Rattle.bson_values.specs.declared.pairs.Pair.{Pair}
 use Rattle.bson_values.specs.declared.value.Value.{Value}
-use Rattle.bson_values.specs.Places.{first_place}
-use Rattle.bson_values.specs.Storable.{names, stands}
+use Rattle.bson_values.specs.Names.{first_place, names}
+use Rattle.bson_values.specs.Storable.{stands}
 use Rattle.command_words.specs.Body.{has_twice}
 
 -- ---- the place of a name

@@ -7,8 +7,8 @@ use Rattle.bson_values.specs.declared.pairs.Pair.{Pair}
 use Rattle.bson_values.specs.declared.value.Value.{Value}
 use Rattle.bson_values.specs.declared.value.Value.TheViews.{out-Value}
 use Rattle.bson_values.specs.declared.value.Value.TheOpen.{Value-F}
-use Rattle.bson_values.specs.Names.{first_of}
-use Rattle.bson_values.specs.Storable.{names, stands, storable}
+use Rattle.bson_values.specs.Names.{first_of, names}
+use Rattle.bson_values.specs.Storable.{stands, storable}
 use Rattle.op_msg.specs.declared.message.Message.{Message}
 use Rattle.op_msg.specs.declared.message.Sequence.{Sequence}
 

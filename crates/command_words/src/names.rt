@@ -1,5 +1,6 @@
 ghost use Rattle.std.specs.Prelude.{◌≡◌, ◌<◌, ◌∷◌, ◌++◌, [], false, length, map, take, IfOk, OnOk, OnErr};
-ghost use Rattle.bson_values.specs.Storable.{names, stands};
+ghost use Rattle.bson_values.specs.Names.{names};
+ghost use Rattle.bson_values.specs.Storable.{stands};
 ghost use Rattle.command_words.specs.Body.{names_of, has_twice};
 
 use bson_values::{Document, NoMemory, Text, Value};

@@ -120,14 +120,14 @@ pub fn answer(
     alloc: Global,
     store: &mut PlainStore,
     replies: u64,
-    message: &Message,
+    message: Message,
 ) -> Result<Bytes, NoMemory>
-    ensures ok { IfOk result (λ bytes. Answered message.now replies
+    ensures ok { IfOk result (λ bytes. Answered message replies
         (store_of store.old) (store_of store.new) bytes) }
     ensures err { OnErr result (store_of store.new ≡ store_of store.old) }
 {
     let number = number_after(replies);
-    let request = request_of(message);
+    let request = request_of(&message);
     let code = code_of(&message.foreign);
     match Command::read(alloc, message) {
         Ok(Command::Ping) => put(alloc, number, request, Reply::Done),

@@ -139,9 +139,9 @@ fn reply_to<L: Link>(
     link: &mut L,
     store: &mut PlainStore,
     replies: u64,
-    message: &Message,
+    message: Message,
 ) -> Replied
-    ensures answers { Answers result message.now replies
+    ensures answers { Answers result message replies
         (scene (L.taken link.old) (L.left link.old) (L.written link.old) (L.moments link.old))
         (scene (L.taken link.new) (L.left link.new) (L.written link.new) (L.moments link.new))
         (store_of store.old) (store_of store.new) }
@@ -185,9 +185,7 @@ fn converse<L: Link>(
     loop {
         match take(alloc, tail(&buffer, used)) {
             Taken::Whole { message, used: len } => {
-                let replied = reply_to(alloc, link, store, commands, &message);
-                drop(message);
-                match replied {
+                match reply_to(alloc, link, store, commands, message) {
                     Replied::Sent => {}
                     Replied::WriteFault => return Said::of(Why::WriteFault, commands + 1),
                     Replied::NoMemory => return Said::of(Why::NoMemory, commands),

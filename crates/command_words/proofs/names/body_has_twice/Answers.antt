@@ -1,7 +1,7 @@
 use Rattle.std.proofs.Common.{◌≡◌, ◌<◌, ◌∙◌, [], List, ℕ, Some, slice_get, length, get_or, ap, sym}
 use Rattle.bson_values.specs.declared.pairs.Pair.{Pair}
 use Rattle.bson_values.specs.declared.value.Value.{Value}
-use Rattle.bson_values.specs.Storable.{names}
+use Rattle.bson_values.specs.Names.{names}
 use Rattle.command_words.proofs.Twice.{read_at, taken_twice, taken_once}
 use Rattle.command_words.proofs.names.body_has_twice.Goals as goal
 

@@ -1,5 +1,5 @@
 use Rattle.std.proofs.Common.{◌≡◌, false, take}
-use Rattle.bson_values.specs.Storable.{names}
+use Rattle.bson_values.specs.Names.{names}
 use Rattle.command_words.specs.Body.{has_twice}
 use Rattle.command_words.proofs.names.body_has_twice.Given as goal
 

@@ -1,5 +1,5 @@
 use Rattle.std.proofs.Common.{◌∙◌, sym, map}
-use Rattle.bson_values.specs.Storable.{names}
+use Rattle.bson_values.specs.Names.{names}
 use Rattle.op_msg.specs.declared.message.Sequence.{Sequence}
 use Rattle.command_words.proofs.Twice.{twice_still}
 use Rattle.command_words.proofs.names.has_twice.Goals as goal

@@ -1,5 +1,6 @@
 use Rattle.std.proofs.Common.{◌≡◌, ◌∙◌, ◌++◌, ◌∷◌, [], List, ℕ, Bool, ap, sym, refl, map}
-use Rattle.bson_values.specs.Storable.{names, stands}
+use Rattle.bson_values.specs.Names.{names}
+use Rattle.bson_values.specs.Storable.{stands}
 use Rattle.op_msg.specs.declared.message.Sequence.{Sequence}
 use Rattle.command_words.proofs.Twice.{read_at, taken_twice, taken_once, last_once, seen_more}
 use Rattle.command_words.proofs.names.sequences_have_twice.Goals as goal

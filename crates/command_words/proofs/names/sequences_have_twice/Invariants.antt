@@ -1,5 +1,5 @@
 use Rattle.std.proofs.Common.{◌≡◌, ◌++◌, false, map, take}
-use Rattle.bson_values.specs.Storable.{names}
+use Rattle.bson_values.specs.Names.{names}
 use Rattle.op_msg.specs.declared.message.Sequence.{Sequence}
 use Rattle.command_words.specs.Body.{has_twice}
 use Rattle.command_words.proofs.names.sequences_have_twice.Given as goal

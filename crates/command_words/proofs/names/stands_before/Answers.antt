@@ -1,5 +1,5 @@
 use Rattle.std.proofs.Common.{ap, sym, ◌∙◌}
-use Rattle.bson_values.specs.Storable.{names}
+use Rattle.bson_values.specs.Names.{names}
 use Rattle.command_words.proofs.Twice.{is_before, stood}
 use Rattle.command_words.proofs.names.stands_before.Goals as goal
 

@@ -1,6 +1,6 @@
 use Rattle.std.proofs.Common.{ap, sym, ◌∙◌}
 use Rattle.std.specs.Prelude.{is_some}
-use Rattle.bson_values.specs.Storable.{names}
+use Rattle.bson_values.specs.Names.{names}
 use Rattle.command_words.proofs.Twice.{there}
 use Rattle.command_words.proofs.names.stands_in.Goals as goal
 

@@ -1,5 +1,5 @@
 use crate::tests::streams::{PING, joined, outcome, piped};
-use bson_values::{Bytes, Document, List, NoMemory, Room, Text, Value};
+use bson_values::{Bytes, Document, NoMemory, Room, Text, Value};
 use bson_wire::write_in;
 use std::alloc::Global;
 use std::test::Fail;
@@ -284,8 +284,6 @@ fn a_find_shows_at_most_101_documents(rt: HostRuntime) -> Result<(), Fail> {
 enum Given {
     Number(i32),
     Text(&'static str),
-    /// Documents with one field, a number.
-    Documents(&'static [(&'static str, i32)]),
     /// A document with one field `a`.
     Filter,
 }
@@ -295,10 +293,6 @@ type Fields = &'static [(&'static str, Given)];
 const COLL: Given = Given::Text("c");
 
 const DB: Given = Given::Text("t");
-
-const TWO: Given = Given::Documents(&[("_id", 1), ("_id", 2)]);
-
-const NO_ID: Given = Given::Documents(&[("a", 1)]);
 
 /// What is told of a refusal: the code, its name and the sentence.
 type Told = (i32, &'static str, &'static str);
@@ -315,30 +309,15 @@ const NO_COMMAND: Told = (59, "CommandNotFound", "no such command");
 
 const NOT_SUPPORTED: Told = (238, "NotImplemented", "not supported");
 
-static REFUSED: [(Fields, Told); 13] = [
+/// A row a kind; which messages are refused by it is told by the tests of `command_words`.
+static REFUSED: [(Fields, Told); 6] = [
     (&[("find", COLL)], MISSING),
     (&[("find", COLL), ("$db", Given::Number(1))], WRONG_TYPE),
     (&[("find", COLL), ("$db", Given::Text("a b"))], INVALID),
-    (&[("find", Given::Text("")), ("$db", DB)], INVALID),
-    (&[("find", Given::Text("$x")), ("$db", DB)], INVALID),
-    (&[("find", Given::Text("system.x")), ("$db", DB)], INVALID),
-    (&[("find", Given::Text(".x")), ("$db", DB)], INVALID),
-    (
-        &[("insert", COLL), ("documents", DB), ("$db", DB)],
-        WRONG_TYPE,
-    ),
     (&[("find", COLL), ("$db", DB), ("find", COLL)], TWICE),
     (&[("pong", COLL), ("$db", DB)], NO_COMMAND),
     (
         &[("find", COLL), ("filter", Given::Filter), ("$db", DB)],
-        NOT_SUPPORTED,
-    ),
-    (
-        &[("insert", COLL), ("documents", TWO), ("$db", DB)],
-        NOT_SUPPORTED,
-    ),
-    (
-        &[("insert", COLL), ("documents", NO_ID), ("$db", DB)],
         NOT_SUPPORTED,
     ),
 ];
@@ -350,20 +329,10 @@ fn number(alloc: Global, name: &str, number: i32) -> Result<Document, NoMemory> 
     Ok(doc)
 }
 
-fn documents(alloc: Global, rows: &[(&'static str, i32)]) -> Result<Value, NoMemory> {
-    let mut items = List::new(alloc);
-    for (name, value) in rows {
-        let doc = number(alloc, name, *value)?;
-        items.push(Value::Doc(doc)).map_err(|_| NoMemory)?;
-    }
-    Ok(Value::Arr(items))
-}
-
 fn value(alloc: Global, given: Given) -> Result<Value, NoMemory> {
     match given {
         Given::Number(number) => Ok(Value::Int(number)),
         Given::Text(words) => Ok(Value::Str(Text::of(alloc, words)?)),
-        Given::Documents(rows) => documents(alloc, rows),
         Given::Filter => Ok(Value::Doc(number(alloc, "a", 1)?)),
     }
 }

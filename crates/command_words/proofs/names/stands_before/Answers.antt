@@ -5,8 +5,8 @@ use Rattle.command_words.proofs.names.stands_before.Goals as goal
 
 pub returns-in-Some : goal.returns-in-Some
 returns-in-Some c =
-    ap (λ found. is_before found c.args.place) c.in-Some.ensures ∙ sym (stood c.args.name.now (names c.args.document.now) c.args.place)
+    ap (λ found. is_before found c.args.place) c.in-Some.ensures.value ∙ sym (stood c.args.name.now (names c.args.document.now) c.args.place)
 
 pub returns-in-None : goal.returns-in-None
 returns-in-None c =
-    ap (λ found. is_before found c.args.place) c.in-None.ensures ∙ sym (stood c.args.name.now (names c.args.document.now) c.args.place)
+    ap (λ found. is_before found c.args.place) c.in-None.ensures.value ∙ sym (stood c.args.name.now (names c.args.document.now) c.args.place)

@@ -6,7 +6,7 @@ pub returns-in-WriteFault-clause-talks : goal.returns-in-WriteFault-clause-talks
 returns-in-WriteFault-clause-talks g c =
     let known = c.loop-message.invariant in
     rw (c.of.ensures.why, c.of.ensures.commands)
-    (breaks _ _ _ _ _ _ _ _ _ _ _ _ _ _ _ _ known.going c.deref.ensures.value c.tail.ensures c.in-Whole.ensures c.reply_to-replied.ensures.taken c.reply_to-replied.ensures.left c.in-WriteFault.ensures.answers)
+    (breaks _ _ _ _ _ _ _ _ _ _ _ _ _ _ _ _ known.going c.deref.ensures.value c.tail.ensures c.in-Whole.ensures c.reply_to.ensures.taken c.reply_to.ensures.left c.in-WriteFault.ensures.answers)
 
 pub loop-message-preserved-in-Whole : goal.loop-message-preserved-in-Whole
 loop-message-preserved-in-Whole g c =
@@ -18,7 +18,7 @@ loop-message-preserved-in-Whole g c =
       room = omega (arith, known.room, front.some);
       read_faults = search rules;
       write_faults = search rules;
-      going = turns _ _ _ _ _ _ _ _ _ _ _ _ _ _ _ _ known.going c.deref.ensures.value c.tail.ensures front c.reply_to-replied.ensures.taken c.reply_to-replied.ensures.left c.in-Sent.ensures.answers;
+      going = turns _ _ _ _ _ _ _ _ _ _ _ _ _ _ _ _ known.going c.deref.ensures.value c.tail.ensures front c.reply_to.ensures.taken c.reply_to.ensures.left c.in-Sent.ensures.answers;
     }
 
 pub loop-message-preserved : goal.loop-message-preserved
@@ -50,8 +50,8 @@ loop-message-init g c = record {
   going = begins _ _ _ _ _ (search rules);
 }
 
-pub returns-in-NoMemory-replied-clause-talks : goal.returns-in-NoMemory-replied-clause-talks
-returns-in-NoMemory-replied-clause-talks g c =
+pub returns-in-NoMemory-reply_to-clause-talks : goal.returns-in-NoMemory-reply_to-clause-talks
+returns-in-NoMemory-reply_to-clause-talks g c =
     let known = c.loop-message.invariant in
-    rw (c.of-in-NoMemory-replied.ensures.why, c.of-in-NoMemory-replied.ensures.commands)
-    (starves _ _ _ _ _ _ _ _ _ _ _ known.going c.reply_to-replied.ensures.taken c.reply_to-replied.ensures.left c.in-NoMemory-replied.ensures.answers)
+    rw (c.of-in-NoMemory-reply_to.ensures.why, c.of-in-NoMemory-reply_to.ensures.commands)
+    (starves _ _ _ _ _ _ _ _ _ _ _ known.going c.reply_to.ensures.taken c.reply_to.ensures.left c.in-NoMemory-reply_to.ensures.answers)

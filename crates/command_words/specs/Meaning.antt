@@ -1,5 +1,5 @@
 -- What a message asks for that is not refused.
-use Rattle.std.specs.Prelude.{◌≡◌, true, List, [], option_map, slice_get, codes}
+use Rattle.std.specs.Prelude.{◌≡◌, true, [], option_map, slice_get, codes}
 use Rattle.std.specs.Option.{unwrap_or}
 use Rattle.bson_values.specs.declared.space.Space.{Space}
 use Rattle.doc_model.specs.declared.op.Op.{Op}

@@ -1,5 +1,5 @@
 -- Replies that go into one message.
-use Rattle.std.proofs.Common.{◌≡◌, ℕ, ◌+◌, ◌≤◌, true, leb, length, length-append, arith}
+use Rattle.std.proofs.Common.{◌+◌, ◌≤◌, leb, length, length-append, arith}
 use Rattle.std.specs.Prelude.{codes, ◌++◌}
 use Rattle.std.proofs.lemmas.Bool.{leb-true}
 use Rattle.bson_values.specs.declared.space.Space.{Space}

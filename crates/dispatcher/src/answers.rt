@@ -133,7 +133,9 @@ pub fn answer(
         Ok(Command::Ping) => put(alloc, number, request, Reply::Done),
         Ok(Command::Insert { op }) => perform(alloc, store, number, request, op),
         Ok(Command::Find { op }) => perform(alloc, store, number, request, op),
-        Err(CommandRefused::Refused(kind)) => put(alloc, number, request, Reply::Error { kind, code }),
+        Err(CommandRefused::Refused(kind)) => {
+            put(alloc, number, request, Reply::Error { kind, code })
+        }
         Err(CommandRefused::NoMemory) => Err(NoMemory),
     }
 }

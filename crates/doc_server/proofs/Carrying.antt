@@ -1,9 +1,9 @@
 -- One message: from its answer to what it did.
-use Rattle.std.proofs.Common.{◌≡◌, ℕ, ℤ, List, [], ◌∷◌, take, sym, ap, subst, ◌∙◌}
+use Rattle.std.proofs.Common.{◌≡◌, ℕ, List, [], ◌∷◌, take, sym, subst}
 use Rattle.outside.specs.Told.{Grows}
 use Rattle.op_msg.specs.declared.message.Message.{Message}
 use Rattle.doc_model.specs.Store.{Store}
-use Rattle.dispatcher.specs.Answers.{number_after, answer}
+use Rattle.dispatcher.specs.Answers.{answer}
 use Rattle.dispatcher.specs.Answering.{Answered}
 use Rattle.doc_server.specs.Talk.{Scene}
 use Rattle.doc_server.specs.Steps.{Dealt}

@@ -20,7 +20,7 @@ use Rattle.case_tables.proofs.Bounds.{text_short, name_short, type_name_short}
 use Rattle.op_msg.specs.Limits.{MOST_REPLY}
 use Rattle.reply_words.specs.declared.replies.Reply.{Reply}
 use Rattle.reply_words.specs.declared.replies.Reply.TheVariants.{Done, Error, Inserted, NotInserted, Batch}
-use Rattle.reply_words.specs.Replies.{int, long, text, document, documents, named, sentence, item_error, namespace, cursor, document_of, total_size, fit_a_batch}
+use Rattle.reply_words.specs.Replies.{int, long, text, document, documents, named, sentence, item_error, namespace, cursor, document_of, total_size}
 use Rattle.reply_words.specs.Small.{IsSmall}
 
 size-Arr : (items : List Value) → length (held Bson (value.Arr items)).1 ≡ items_size 0 (map value_size items) + 5

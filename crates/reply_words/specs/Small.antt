@@ -1,5 +1,5 @@
 -- Which replies are so small that they can be sent. A link between contracts.
-use Rattle.std.specs.Prelude.{ℕ, ◌≡◌, ◌≤◌, true, length}
+use Rattle.std.specs.Prelude.{◌≡◌, ◌≤◌, true, length}
 use Rattle.reply_words.specs.declared.replies.Reply.{Reply}
 use Rattle.reply_words.specs.declared.replies.Reply.TheVariants.{Batch}
 use Rattle.reply_words.specs.Replies.{namespace, fit_a_batch}

@@ -3,8 +3,8 @@ ghost use Rattle.reply_words.specs.declared.replies.Reply.TheVariants as reply;
 ghost use Rattle.reply_words.specs.Replies.{document_of};
 
 use crate::batches::batch;
-use crate::refusals::{error, not_inserted};
 use crate::fields::add;
+use crate::refusals::{error, not_inserted};
 use bson_values::{Document, List, NoMemory, Space, Value};
 use case_tables::Kind;
 use std::alloc::Global;

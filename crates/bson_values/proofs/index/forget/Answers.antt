@@ -1,7 +1,6 @@
-use Rattle.std.proofs.Common.{◌≡◌, ◌∙◌, ap, sym, cond, option_map}
+use Rattle.std.proofs.Common.{◌∙◌, ap, sym, cond, option_map}
 use Rattle.std.specs.BTreeMap.{get_by_text}
 use Rattle.std.specs.Str.{bytes_eq}
-use Rattle.bson_values.specs.Names.{first_place}
 use Rattle.bson_values.specs.Places.{lowered, next_place}
 use Rattle.bson_values.proofs.Removals.{is_here, forgot_first, forgot_later}
 use Rattle.bson_values.proofs.index.forget.Goals as goal

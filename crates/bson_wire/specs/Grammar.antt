@@ -14,12 +14,12 @@ use Rattle.bson_spelling.specs.declared.form.Form.TheVariants.{Bson}
 use Rattle.bson_spelling.specs.Spelling.{int32, int64, cstring, string, bool, binary}
 
 -- documents and arrays may stand in one another so deep
-abbrev pub most_levels : ℕ
-most_levels = 128
+abbrev pub MOST_NESTED : ℕ
+MOST_NESTED = 128
 
 -- an int32 says lengths below it
-abbrev pub length_limit : ℕ
-length_limit = 2 ^ 31
+abbrev pub LENGTH_LIMIT : ℕ
+LENGTH_LIMIT = 2 ^ 31
 
 -- UTF-8 with no U+0000
 pub record IsName (name : List ℕ) : Type 0 where
@@ -29,12 +29,12 @@ pub record IsName (name : List ℕ) : Type 0 where
 -- UTF-8 behind a positive int32, which counts its 00 byte too
 pub record IsString (bytes text : List ℕ) : Type 0 where
   pub utf8 : IsUtf8 text
-  pub small : length text + 1 < length_limit
+  pub small : length text + 1 < LENGTH_LIMIT
   pub whole : bytes ≡ string Bson text
 
 -- an int32 that is not negative, a byte, and as many bytes as the int32 says
 pub record IsBinary (bytes : List ℕ) (it : Binary) : Type 0 where
-  pub small : length it.bytes < length_limit
+  pub small : length it.bytes < LENGTH_LIMIT
   pub whole : bytes ≡ binary Bson it.subtype it.bytes
 
 -- two names, each ended by a 00 byte
@@ -63,7 +63,7 @@ pub record IsPointer (bytes : List ℕ) : Type 0 where
   pub text : List ℕ
   pub id : List ℕ
   pub utf8 : IsUtf8 text
-  pub small : length text + 1 < length_limit
+  pub small : length text + 1 < LENGTH_LIMIT
   pub twelve : length id ≡ 12
   pub whole : bytes ≡ string Bson text ++ id
 
@@ -71,7 +71,7 @@ pub record IsPointer (bytes : List ℕ) : Type 0 where
 pub record IsScoped (bytes : List ℕ) : Type 0 where
   pub inside : List ℕ
   pub least : 14 ≤ length bytes
-  pub small : length bytes < length_limit
+  pub small : length bytes < LENGTH_LIMIT
   pub whole : bytes ≡ int32 (length bytes) ++ inside
 
 -- behind this type byte, these bytes spell a value of a foreign type: double, undefined, DBPointer, JavaScript code, symbol,
@@ -161,7 +161,7 @@ module _ (IsDocument : ℕ → List ℕ → List (Pair Value) → List Foreign �
   -- an int32 that equals the length of all the bytes, elements, and a 00 byte
   pub record Encloses (place : ℕ) (bytes : List ℕ) (elements : List Element) : Type 0 where
     pub inside : List ℕ
-    pub small : length bytes < length_limit
+    pub small : length bytes < LENGTH_LIMIT
     pub whole : bytes ≡ int32 (length bytes) ++ inside ++ 0 ∷ []
     pub are : AreElements (place + 4) inside elements
 
@@ -175,4 +175,4 @@ spells_within (suc levels) place bytes pairs foreign =
 -- the bytes spell the document, in at most so many levels, and the foreign elements, which are not in it;
 -- places are counted from the first byte
 abbrev pub spells : List ℕ → List (Pair Value) → List Foreign → Type 0
-spells bytes doc foreign = spells_within most_levels 0 bytes doc foreign
+spells bytes doc foreign = spells_within MOST_NESTED 0 bytes doc foreign

@@ -14,7 +14,7 @@ use Rattle.bson_values.specs.declared.value.Value.TheVariants as value
 use Rattle.bson_wire.specs.declared.foreign.Foreign.{Foreign}
 use Rattle.bson_wire.specs.declared.refused.ReadRefused.{ReadRefused}
 use Rattle.bson_wire.specs.declared.refused.ReadRefused.TheVariants.{Malformed, NoMemory}
-use Rattle.bson_wire.specs.Grammar.{most_levels, Element, kept, foreigns, values}
+use Rattle.bson_wire.specs.Grammar.{MOST_NESTED, Element, kept, foreigns, values}
 
 -- the fault is at that place, unless memory ran out
 abbrev pub Fails : {Y : Type 0} → ReadRefused → Result Y ℕ → Type 0
@@ -238,7 +238,7 @@ items_told found = found >>= λ it. Ok (values (kept it), first (foreigns it))
 
 -- the place of the first fault of what should be a document at the front; none where one is there
 abbrev pub fault : List ℕ → Option ℕ
-fault bytes = fault_of (document_at most_levels (length bytes) bytes)
+fault bytes = fault_of (document_at MOST_NESTED (length bytes) bytes)
 
 -- malformed bytes are told by that place
 abbrev pub Tells : ReadRefused → List ℕ → Type 0

@@ -6,7 +6,7 @@ use Rattle.bson_values.specs.declared.pairs.Pair.{Pair}
 use Rattle.bson_values.specs.declared.value.Value.{Value, out-Value}
 use Rattle.bson_values.specs.declared.value.Value.TheOpen.{Value-F}
 use Rattle.bson_spelling.specs.Spelling.{spell}
-use Rattle.bson_wire.specs.Grammar.{most_levels, length_limit, IsName}
+use Rattle.bson_wire.specs.Grammar.{MOST_NESTED, LENGTH_LIMIT, IsName}
 
 -- texts that are UTF-8, names and regex texts without U+0000, numbers that fit, at most so many levels of containers
 abbrev pub HasSpelling : Value-F Value → ℕ → Type 0
@@ -28,5 +28,5 @@ HasSpelling (Value-F.Long number) levels = FitsSigned w64 number
 
 -- a document of so many levels at most, in so few bytes that an int32 says how many
 pub record IsSpellable (doc : List (Pair Value)) : Type 0 where
-  pub fits : HasSpelling (Value-F.Doc doc) most_levels
-  pub small : length (spell doc) < length_limit
+  pub fits : HasSpelling (Value-F.Doc doc) MOST_NESTED
+  pub small : length (spell doc) < LENGTH_LIMIT

@@ -3,7 +3,7 @@ ghost use Rattle.bson_values.specs.Measures.{size};
 ghost use Rattle.bson_values.specs.declared.pairs.Pair.{Pair};
 ghost use Rattle.bson_values.specs.declared.value.Value.{Value};
 ghost use Rattle.bson_wire.specs.declared.foreign.Foreign.{Foreign};
-ghost use Rattle.bson_wire.specs.Grammar.{length_limit, spells};
+ghost use Rattle.bson_wire.specs.Grammar.{LENGTH_LIMIT, spells};
 ghost use Rattle.bson_wire.specs.Spellable.{IsSpellable};
 ghost use Rattle.bson_spelling.specs.Spelling.{spell};
 
@@ -24,7 +24,7 @@ pub fn what_was_written_is_read_again()
 #[tactic(auto, using(crate::proofs::Writable::writable))]
 pub fn what_was_read_can_be_written()
     ensures { (bytes : List ℕ) (doc : List (Pair Value)) (foreign : List Foreign) → spells bytes doc foreign
-        → length (spell doc) < length_limit → IsSpellable doc }
+        → length (spell doc) < LENGTH_LIMIT → IsSpellable doc }
 {}
 
 /// The size of a document is the length of its spelling.

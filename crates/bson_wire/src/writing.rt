@@ -1,7 +1,7 @@
 ghost use Rattle.std.specs.Prelude.{◌≡◌, ◌++◌, ◌+◌, ◌<◌, ◌≤◌, length, OnOk, OnErr};
 ghost use Rattle.bson_values.specs.Measures.{size};
 ghost use Rattle.bson_spelling.specs.Spelling.{spell};
-ghost use Rattle.bson_wire.specs.Grammar.{length_limit};
+ghost use Rattle.bson_wire.specs.Grammar.{LENGTH_LIMIT};
 
 use bson_spelling::{Form, put_document};
 use bson_values::{Bytes, Document, NoMemory, Room};
@@ -10,7 +10,7 @@ use bson_values::{Bytes, Document, NoMemory, Room};
 /// for `doc.size()` bytes.
 #[tactic(auto, using(crate::proofs::Measured::measured))]
 pub fn write_in(doc: &Document, out: &mut Room<u8>)
-    requires small { size doc.now < length_limit }
+    requires small { size doc.now < LENGTH_LIMIT }
     requires room { size doc.now ≤ out.old.spare }
     ensures items { out.new.items ≡ out.old.items ++ spell doc.now }
     ensures spare { out.new.spare + size doc.now ≡ out.old.spare }
@@ -21,7 +21,7 @@ pub fn write_in(doc: &Document, out: &mut Room<u8>)
 /// Appends the bytes of a document, as BSON 1.1 spells it. Want of memory appends nothing.
 #[tactic(auto, using(crate::proofs::Measured::measured))]
 pub fn write(doc: &Document, out: &mut Bytes) -> Result<(), NoMemory>
-    requires small { length (spell doc.now) < length_limit }
+    requires small { length (spell doc.now) < LENGTH_LIMIT }
     ensures ok { OnOk result (out.new ≡ out.old ++ spell doc.now) }
     ensures err { OnErr result (out.new ≡ out.old) }
 {

@@ -1,6 +1,6 @@
 -- What stands in a message: its first field has the command's name, the others and the sequences say what it works on.
 use Rattle.std.specs.Prelude.{ℕ, Bool, true, false, ◌&&◌, ◌||◌, List, [], ◌∷◌}
-use Rattle.std.specs.Prelude.{◌++◌, Option, None, Some, map, find, option_map, is_ok, codes}
+use Rattle.std.specs.Prelude.{◌++◌, Option, None, Some, map, find, option_map, codes}
 use Rattle.std.specs.Option.{option_or, unwrap_or}
 use Rattle.std.specs.Str.{bytes_eq}
 use Rattle.bson_values.specs.declared.pairs.Pair.{Pair}
@@ -8,7 +8,8 @@ use Rattle.bson_values.specs.declared.value.Value.{Value}
 use Rattle.bson_values.specs.declared.value.Value.TheViews.{out-Value}
 use Rattle.bson_values.specs.declared.value.Value.TheOpen.{Value-F}
 use Rattle.bson_values.specs.Names.{first_of, names}
-use Rattle.bson_values.specs.Storable.{stands, storable}
+use Rattle.bson_values.specs.Allowed.{can_be_stored}
+use Rattle.bson_values.specs.Storable.{stands}
 use Rattle.op_msg.specs.declared.message.Message.{Message}
 use Rattle.op_msg.specs.declared.message.Sequence.{Sequence}
 
@@ -71,5 +72,5 @@ can_be_id _ = true
 -- one document, its `_id` first, and such as may be stored
 abbrev pub may_be_inserted : List (List (Pair Value)) → Bool
 may_be_inserted ((field ∷ fields) ∷ []) =
-    bytes_eq field.name (codes "_id") && can_be_id (out-Value field.value) && is_ok (storable (field ∷ fields))
+    bytes_eq field.name (codes "_id") && can_be_id (out-Value field.value) && can_be_stored (field ∷ fields)
 may_be_inserted _ = false

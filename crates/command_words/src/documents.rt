@@ -25,6 +25,7 @@ fn can_be_id(value: &Value) -> bool
     !matches!(value, Value::Arr(_) | Value::Regex(_))
 }
 
+#[tactic(auto, using(bson_values::proofs::Soundness::storable_where))]
 fn document_may(document: &Document) -> bool
     ensures { result ≡ may_be_inserted (document.now ∷ []) }
 {

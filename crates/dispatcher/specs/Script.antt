@@ -1,5 +1,5 @@
 -- The script of a connection: its executed messages, what its operations were replied, and what is written for them.
-use Rattle.std.specs.Prelude.{ℕ, ◌+◌, List, [], ◌∷◌, ◌++◌, Option, None, Some}
+use Rattle.std.specs.Prelude.{ℕ, ◌+◌, if◌then◌else◌, List, [], ◌∷◌, ◌++◌, map, is_some}
 use Rattle.op_msg.specs.declared.message.Message.{Message}
 use Rattle.doc_model.specs.declared.op.Op.{Op}
 use Rattle.doc_model.specs.declared.op.OpReply.{OpReply}
@@ -18,12 +18,10 @@ pub record Executed : Type 0 where
   pub replies : List OpReply
 
 abbrev pub messages : List Executed → List Message
-messages [] = []
-messages (t ∷ ts) = t.message ∷ messages ts
+messages ts = map (λ (t : Executed). t.message) ts
 
 abbrev pub moments : List Executed → List ℕ
-moments [] = []
-moments (t ∷ ts) = t.now ∷ moments ts
+moments ts = map (λ (t : Executed). t.now) ts
 
 -- the operations of a command
 abbrev pub ops_in : Command → List Op
@@ -31,14 +29,9 @@ ops_in Ping = []
 ops_in (Insert op) = op ∷ []
 ops_in (Find op) = op ∷ []
 
--- a refused message has none
-abbrev pub ops_by : Option ℕ → Command → List Op
-ops_by (Some kind) command = []
-ops_by None command = ops_in command
-
--- the operations of a message
+-- the operations of a message; a refused one has none
 unfoldable pub ops_of : Message → List Op
-ops_of m = ops_by (refusal m) (command_of m)
+ops_of m = if is_some (refusal m) then [] else ops_in (command_of m)
 
 -- operations with their replies, numbered from n on
 abbrev pub numbered : ℕ → ℕ → ℕ → ℕ → List Op → List OpReply → List Done

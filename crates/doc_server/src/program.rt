@@ -2,7 +2,7 @@ ghost use Rattle.std.specs.Prelude.{◌≡◌, false, map, is_some, string_bytes
 ghost use Rattle.doc_model.specs.Kept.{store_of};
 ghost use Rattle.doc_model.specs.Store.{empty_store};
 ghost use Rattle.doc_server.specs.Talk.{Faults, scene};
-ghost use Rattle.doc_server.specs.Program.{is_pipe, status_of, Conversed};
+ghost use Rattle.doc_server.specs.Program.{is_pipe, status_of, Spoken};
 
 use crate::serve::{Ended, serve_link};
 use crate::why::Why;
@@ -64,7 +64,7 @@ pub fn ferret<W: World>(alloc: Global, words: &[String], world: &mut W) -> Finis
 
     // What came of the input are messages and a rest, what was written are their answers, the replies in them are a run of the one-thread
     // store from the empty one to what is left, and nothing of the input is left that could be answered, unless it was cut off.
-    ensures conversed { IfSome result.console (λ e. Conversed 0 0 (W.input world.old)
+    ensures spoken { IfSome result.console (λ e. Spoken 0 0 (W.input world.old)
         (scene (W.Console.taken e.link) (W.Console.left e.link) (W.Console.written e.link) (W.Console.moments e.link))
         (store_of result.store) e.why e.commands) }
 {

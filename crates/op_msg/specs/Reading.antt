@@ -8,8 +8,9 @@ use Rattle.bson_values.specs.declared.pairs.Pair.{Pair}
 use Rattle.bson_values.specs.declared.value.Value.{Value}
 use Rattle.bson_wire.specs.declared.foreign.Foreign.{Foreign}
 use Rattle.std_words.specs.Steps.{◌>>=◌, fault_of}
+use Rattle.bson_wire.specs.Grammar.{MOST_NESTED}
 use Rattle.bson_wire.specs.Reading.{document_at, name_at, first}
-use Rattle.op_msg.specs.Limits.{LEAST_MESSAGE, MOST_MESSAGE, MOST_NESTED, BEFORE_SECTIONS, OP_MSG}
+use Rattle.op_msg.specs.Limits.{LEAST_MESSAGE, MOST_MESSAGE, OP_MSG}
 use Rattle.op_msg.specs.Stream.{moved}
 use Rattle.op_msg.specs.declared.message.Message.{Message}
 use Rattle.op_msg.specs.declared.message.Sequence.{Sequence}
@@ -41,10 +42,10 @@ short bytes = (early bytes ≡ None) × ((length bytes < LEAST_MESSAGE) ⊎ (len
 -- the sections of a whole message, behind its flags
 unfoldable pub sections_at : List ℕ → Result (List ℕ) Fault
 sections_at bytes =
-    if nat_lt (length bytes) BEFORE_SECTIONS then Err (Section, 16)
+    if nat_lt (length bytes) 20 then Err (Section, 16)
     else if nat_lt 1 (little_number 2 (drop 16 bytes)) then Err (Flags, 16)
     else if little_number 2 (drop 16 bytes) == 1 then Err (Checksum, 16)
-    else Ok (drop BEFORE_SECTIONS bytes)
+    else Ok (drop 20 bytes)
 
 -- what was read at the front: a value, the first foreign element in it, and the bytes behind it
 abbrev pub Found : Type 0 → Type 0

@@ -8,7 +8,7 @@ use Rattle.bson_wire.specs.Spelling.{int32, cstring}
 use Rattle.bson_wire.specs.declared.foreign.Foreign.{Foreign}
 use Rattle.bson_wire.specs.Grammar.{IsName, spells}
 use Rattle.bson_wire.specs.Reading.{first}
-use Rattle.op_msg.specs.Limits.{LEAST_MESSAGE, MOST_MESSAGE, BEFORE_SECTIONS, OP_MSG}
+use Rattle.op_msg.specs.Limits.{LEAST_MESSAGE, MOST_MESSAGE, OP_MSG}
 use Rattle.op_msg.specs.declared.message.Sequence.{Sequence}
 use Rattle.op_msg.specs.declared.message.Message.{Message}
 
@@ -71,7 +71,7 @@ pub record message (bytes : List ℕ) (m : Message) : Type 0 where
   pub two : length high_flags ≡ 2
   pub whole : bytes ≡ int32 (length bytes) ++ int32 (cast_unsigned w32 m.request) ++ response_to ++ int32 OP_MSG
       ++ (0 ∷ 0 ∷ []) ++ high_flags ++ sections
-  pub are : AreSections BEFORE_SECTIONS sections m
+  pub are : AreSections 20 sections m
 
 -- the messages one after another, then the rest
 abbrev pub in_order : List ℕ → List Message → List ℕ → Type 0

@@ -1,6 +1,7 @@
 ghost use Rattle.std.specs.Prelude.{◌≡◌, ◌≤◌, ◌<◌, ◌+◌, ◌-◌, ◌==◌, ◌++◌, [], length, slice_index, IfOk};
+ghost use Rattle.bson_wire.specs.Grammar.{MOST_NESTED};
 ghost use Rattle.bson_wire.specs.Reading.{Before, document_at};
-ghost use Rattle.op_msg.specs.Limits.{MOST_MESSAGE, MOST_NESTED};
+ghost use Rattle.op_msg.specs.Limits.{MOST_MESSAGE};
 ghost use Rattle.op_msg.specs.Stream.{moved};
 ghost use Rattle.op_msg.specs.Reading.{in_message, document_in, documents_at, sized_at, sequence_at, sequences_at, behind_those};
 ghost use Rattle.op_msg.specs.Reading.{body_at, end_at, content_at};

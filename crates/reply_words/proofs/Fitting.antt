@@ -20,7 +20,7 @@ use Rattle.case_tables.proofs.Bounds.{text_short, name_short, type_name_short}
 use Rattle.op_msg.specs.Limits.{MOST_REPLY}
 use Rattle.reply_words.specs.declared.replies.Reply.{Reply}
 use Rattle.reply_words.specs.declared.replies.Reply.TheVariants.{Done, Error, Inserted, NotInserted, Batch}
-use Rattle.reply_words.specs.Replies.{int, long, text, document, documents, named, sentence, item_error, namespace, cursor, document_of, total_size}
+use Rattle.reply_words.specs.Replies.{field, named, sentence, item_error, namespace, cursor, document_of, total_size}
 use Rattle.reply_words.specs.Small.{IsSmall}
 
 size-Arr : (items : List Value) → length (held Bson (value.Arr items)).1 ≡ items_size 0 (map value_size items) + 5
@@ -43,8 +43,8 @@ sentence_short kind (Some code) =
 
 item_short : (kind : ℕ) → length (spell (item_error 0 kind)) ≤ 200
 item_short kind =
-    let one : List (Pair Value) = int "index" 0 ∷ [] in
-    let two : List (Pair Value) = one ++ int "code" (code_of kind) ∷ [] in
+    let one : List (Pair Value) = field "index" (value.Int (pos 0)) ∷ [] in
+    let two : List (Pair Value) = one ++ field "code" (value.Int (pos (code_of kind))) ∷ [] in
     omega (
       arith,
       spell-push [] (codes "index") (value.Int (pos 0)),
@@ -64,8 +64,8 @@ items_short place (doc ∷ docs) few = omega (arith, few, digits_few place (omeg
 cursor_short : (space : Space) (docs : List (List (Pair Value))) → IsSmall (Batch space docs) → length (spell (cursor space docs)) ≤ 16780000
 cursor_short space docs small =
     let items = map value.Doc docs in
-    let one : List (Pair Value) = documents "firstBatch" docs ∷ [] in
-    let two : List (Pair Value) = one ++ long "id" 0 ∷ [] in
+    let one : List (Pair Value) = field "firstBatch" (value.Arr (map value.Doc docs)) ∷ [] in
+    let two : List (Pair Value) = one ++ field "id" (value.Long (pos 0)) ∷ [] in
     let both = and-both (leb (length docs) 101) (leb (total_size docs) 16777216) small.0 in
     let count : length docs ≤ 101 = leb-true _ _ both.0 in
     let bytes : total_size docs ≤ 16777216 = leb-true _ _ both.1 in
@@ -86,12 +86,12 @@ cursor_short space docs small =
 pub fits : (reply : Reply) → IsSmall reply → length (spell (document_of reply)) ≤ MOST_REPLY
 fits Done small = omega (arith, spell-push [] (codes "ok") (value.Int (pos 1)), size-Int (pos 1))
 fits Inserted small =
-    let one : List (Pair Value) = int "n" 1 ∷ [] in
+    let one : List (Pair Value) = field "n" (value.Int (pos 1)) ∷ [] in
     omega (arith, spell-push [] (codes "n") (value.Int (pos 1)), spell-push one (codes "ok") (value.Int (pos 1)), size-Int (pos 1))
 fits (Error kind code) small =
-    let one : List (Pair Value) = int "ok" 0 ∷ [] in
-    let two : List (Pair Value) = one ++ text "errmsg" (sentence kind code) ∷ [] in
-    let three : List (Pair Value) = two ++ int "code" (code_of kind) ∷ [] in
+    let one : List (Pair Value) = field "ok" (value.Int (pos 0)) ∷ [] in
+    let two : List (Pair Value) = one ++ field "errmsg" (value.Str (sentence kind code)) ∷ [] in
+    let three : List (Pair Value) = two ++ field "code" (value.Int (pos (code_of kind))) ∷ [] in
     omega (
       arith,
       spell-push [] (codes "ok") (value.Int (pos 0)),
@@ -107,8 +107,8 @@ fits (Error kind code) small =
     )
 fits (NotInserted kind) small =
     let errors = map value.Doc (item_error 0 kind ∷ []) in
-    let one : List (Pair Value) = int "n" 0 ∷ [] in
-    let two : List (Pair Value) = one ++ documents "writeErrors" (item_error 0 kind ∷ []) ∷ [] in
+    let one : List (Pair Value) = field "n" (value.Int (pos 0)) ∷ [] in
+    let two : List (Pair Value) = one ++ field "writeErrors" (value.Arr (value.Doc (item_error 0 kind) ∷ [])) ∷ [] in
     omega (
       arith,
       spell-push [] (codes "n") (value.Int (pos 0)),
@@ -122,7 +122,7 @@ fits (NotInserted kind) small =
       item_short kind,
     )
 fits (Batch space docs) small =
-    let one : List (Pair Value) = document "cursor" (cursor space docs) ∷ [] in
+    let one : List (Pair Value) = field "cursor" (value.Doc (cursor space docs)) ∷ [] in
     omega (
       arith,
       spell-push [] (codes "cursor") (value.Doc (cursor space docs)),

@@ -11,21 +11,9 @@ use Rattle.case_tables.specs.Types.{type_name_of}
 use Rattle.reply_words.specs.declared.replies.Reply.{Reply}
 use Rattle.reply_words.specs.declared.replies.Reply.TheVariants.{Done, Error, Inserted, NotInserted, Batch}
 
--- fields
-abbrev pub int : String → ℕ → Pair Value
-int name number = record { name = codes name; value = Int (pos number) }
-
-abbrev pub long : String → ℕ → Pair Value
-long name number = record { name = codes name; value = Long (pos number) }
-
-abbrev pub text : String → List ℕ → Pair Value
-text name it = record { name = codes name; value = Str it }
-
-abbrev pub document : String → List (Pair Value) → Pair Value
-document name it = record { name = codes name; value = Doc it }
-
-abbrev pub documents : String → List (List (Pair Value)) → Pair Value
-documents name them = record { name = codes name; value = Arr (map Doc them) }
+-- a field
+abbrev pub field : String → Value → Pair Value
+field name it = record { name = codes name; value = it }
 
 -- a blank and the name of a type, where the type byte is one's
 abbrev pub named : List ℕ → List ℕ
@@ -39,7 +27,8 @@ sentence kind (Some code) = if kind == 2 then text_of kind ++ named (type_name_o
 
 -- an item that was refused
 abbrev pub item_error : ℕ → ℕ → List (Pair Value)
-item_error index kind = int "index" index ∷ int "code" (code_of kind) ∷ text "errmsg" (text_of kind) ∷ []
+item_error index kind =
+    field "index" (Int (pos index)) ∷ field "code" (Int (pos (code_of kind))) ∷ field "errmsg" (Str (text_of kind)) ∷ []
 
 -- db.coll
 abbrev pub namespace : Space → List ℕ
@@ -47,28 +36,24 @@ namespace space = space.db ++ codes "." ++ space.coll
 
 -- a cursor that has no more than its first batch
 abbrev pub cursor : Space → List (List (Pair Value)) → List (Pair Value)
-cursor space docs = documents "firstBatch" docs ∷ long "id" 0 ∷ text "ns" (namespace space) ∷ []
+cursor space docs = field "firstBatch" (Arr (map Doc docs)) ∷ field "id" (Long (pos 0)) ∷ field "ns" (Str (namespace space)) ∷ []
 
 -- the document of each reply
 abbrev pub document_of : Reply → List (Pair Value)
-document_of Done = int "ok" 1 ∷ []
-document_of (Error kind code) = int "ok" 0 ∷ text "errmsg" (sentence kind code) ∷ int "code" (code_of kind) ∷ text "codeName" (code_name_of kind) ∷ []
-document_of Inserted = int "n" 1 ∷ int "ok" 1 ∷ []
-document_of (NotInserted kind) = int "n" 0 ∷ documents "writeErrors" (item_error 0 kind ∷ []) ∷ int "ok" 1 ∷ []
-document_of (Batch space docs) = document "cursor" (cursor space docs) ∷ int "ok" 1 ∷ []
-
--- how many documents, and how many bytes of them, one batch may have
-abbrev pub MOST_DOCUMENTS : ℕ
-MOST_DOCUMENTS = 101
-
-abbrev pub MOST_BYTES : ℕ
-MOST_BYTES = 16777216
+document_of Done = field "ok" (Int (pos 1)) ∷ []
+document_of (Error kind code) =
+    field "ok" (Int (pos 0)) ∷ field "errmsg" (Str (sentence kind code)) ∷ field "code" (Int (pos (code_of kind)))
+    ∷ field "codeName" (Str (code_name_of kind)) ∷ []
+document_of Inserted = field "n" (Int (pos 1)) ∷ field "ok" (Int (pos 1)) ∷ []
+document_of (NotInserted kind) =
+    field "n" (Int (pos 0)) ∷ field "writeErrors" (Arr (Doc (item_error 0 kind) ∷ [])) ∷ field "ok" (Int (pos 1)) ∷ []
+document_of (Batch space docs) = field "cursor" (Doc (cursor space docs)) ∷ field "ok" (Int (pos 1)) ∷ []
 
 -- the bytes that all the documents take
 abbrev pub total_size : List (List (Pair Value)) → ℕ
 total_size [] = 0
 total_size (doc ∷ docs) = size doc + total_size docs
 
--- the documents go into one batch
+-- the documents go into one batch: at most 101 of them, of at most 16,777,216 bytes
 abbrev pub fit_a_batch : List (List (Pair Value)) → Bool
-fit_a_batch docs = nat_le (length docs) MOST_DOCUMENTS && nat_le (total_size docs) MOST_BYTES
+fit_a_batch docs = nat_le (length docs) 101 && nat_le (total_size docs) 16777216

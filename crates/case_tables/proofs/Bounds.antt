@@ -7,13 +7,15 @@ use Rattle.std_words.proofs.Tests.{and-both}
 use Rattle.case_tables.specs.Refusals.{beside, kind_codes, kind_texts, error_codes, code_of, text_of, code_name_of}
 
 -- what holds of what stands for no row and of each row holds of what is found
-found : {A : Type 0} (test : A → Bool) (none : A) (number : ℕ) (rows : List (ℕ × A)) → test none ≡ true → list_all (λ (row : ℕ × A). test row.1) rows ≡ true → test (beside none number rows) ≡ true
+found : {A : Type 0} (test : A → Bool) (none : A) (number : ℕ) (rows : List (ℕ × A)) → test none ≡ true
+    → list_all (λ (row : ℕ × A). test row.1) rows ≡ true → test (beside none number rows) ≡ true
 found test none number [] base all = base
 found {A} test none number (row ∷ rows) base all =
     let parts = and-both (test row.1) (list_all (λ (it : ℕ × A). test it.1) rows) all in
     pick test row.1 (beside none number rows) (eqb row.0 number) parts.0 (found test none number rows base parts.1)
   where
-    pick : {A : Type 0} (test : A → Bool) (one other : A) (is : Bool) → test one ≡ true → test other ≡ true → test (cond is one other) ≡ true
+    pick : {A : Type 0} (test : A → Bool) (one other : A) (is : Bool) → test one ≡ true → test other ≡ true
+        → test (cond is one other) ≡ true
     pick test one other true first second = first
     pick test one other false first second = second
 

@@ -8,7 +8,8 @@ use Rattle.case_tables.specs.Cases.{row_of_code, row_of_name, clash, is_distinct
 use Rattle.case_tables.specs.declared.case_table.Case.{Case}
 
 -- what holds of no row does not hold of the row at a place
-free : (row : Case) (rows : List Case) (place : ℕ) (other : Case) → list_any (clash row) rows ≡ false → slice_get rows place ≡ Some other → clash row other ≡ false
+free : (row : Case) (rows : List Case) (place : ℕ) (other : Case) → list_any (clash row) rows ≡ false
+    → slice_get rows place ≡ Some other → clash row other ≡ false
 free row [] place other none at = grind (arith, common_steps)
 free row (first ∷ rows) zero other none at = grind (arith, common_steps)
 free row (first ∷ rows) (suc place) other none at = grind (arith, common_steps, free row rows place other)

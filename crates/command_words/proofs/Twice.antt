@@ -11,23 +11,10 @@ use Rattle.std.proofs.lemmas.Slice.Eq.{bytes_eq-Decides}
 use Rattle.std_words.proofs.Tests.{never-both, or-first, or-second, or-either, or-not-first, or-not-second, or-neither}
 use Rattle.bson_values.specs.Names.{first_place}
 use Rattle.bson_values.specs.Storable.{stands}
+use Rattle.bson_values.proofs.Places.{is_before, none_before, one_more}
 use Rattle.command_words.specs.Body.{has_twice}
 
 -- ---- the place of a name
-
--- a place before another
-abbrev pub is_before : Option ℕ → ℕ → Bool
-is_before found i = unwrap_or (option_map (λ n. nat_lt n i) found) false
-
-none_before : (found : Option ℕ) → false ≡ is_before found 0
-none_before None = refl
-none_before (Some n) = grind (arith, common_steps)
-
-one_more : (here : Bool) (found : Option ℕ) (i : ℕ)
-    → here || is_before found i ≡ is_before (if here then Some 0 else option_map (λ n. n + 1) found) (suc i)
-one_more true found i = grind (arith, common_steps)
-one_more false None i = refl
-one_more false (Some n) i = grind (arith, common_steps)
 
 -- a name stands among the first names where its first place is before them
 pub stood : (name : List ℕ) (all : List (List ℕ)) (i : ℕ) → stands (take i all) name ≡ is_before (first_place name all) i

@@ -46,10 +46,13 @@ refused-tells m why kind is tells = subst (λ w. Tells w m) (sym is) tells
 pub nobody : Who
 nobody = record { seat = 0; link = 0; op = 0 }
 
-pub refused-keeps : (space : Space) (doc : Doc) (kind : ℕ) (before after : Store) → ((who : Who) (now : ℕ) → step who now (op.Insert space doc) before (Refused kind) after) → after ≡ before
-refused-keeps space doc kind before after is = insert-refused kind space doc before after (collection_of space before.collections) (is nobody 0)
+pub refused-keeps : (space : Space) (doc : Doc) (kind : ℕ) (before after : Store)
+    → ((who : Who) (now : ℕ) → step who now (op.Insert space doc) before (Refused kind) after) → after ≡ before
+refused-keeps space doc kind before after is = insert-refused kind space doc before after (collection_of space before.collections)
+    (is nobody 0)
 
-pub found-keeps : (space : Space) (docs : List Doc) (before after : Store) → ((who : Who) (now : ℕ) → step who now (op.Find space) before (Selected docs) after) → after ≡ before
+pub found-keeps : (space : Space) (docs : List Doc) (before after : Store)
+    → ((who : Who) (now : ℕ) → step who now (op.Find space) before (Selected docs) after) → after ≡ before
 found-keeps space docs before after is = ap (λ (it : Meant). it.store) (is nobody 0)
 
 -- where it was refused it is as before, whatever comes of the answer
@@ -58,29 +61,48 @@ on-err (Ok it) Fact fact = tt
 on-err (Err refused) Fact fact = fact
 
 -- an operation's bytes, told of a number that is the reply's
-numbered-so : (it : Op) (n k request asked : ℤ) (before after : Store) (bytes : List ℕ) → n ≡ k → request ≡ asked → Performed it n request before after bytes → Performed it k asked before after bytes
+numbered-so : (it : Op) (n k request asked : ℤ) (before after : Store) (bytes : List ℕ) → n ≡ k → request ≡ asked
+    → Performed it n request before after bytes → Performed it k asked before after bytes
 numbered-so it n k request asked before after bytes is asked_is done =
     subst (λ number. Performed it number asked before after bytes) is (subst (λ r. Performed it n r before after bytes) asked_is done)
 
 -- and a document's
-told-so : (n k request asked : ℤ) (doc : Doc) (bytes : List ℕ) → n ≡ k → request ≡ asked → bytes ≡ reply n request doc → bytes ≡ reply k asked doc
+told-so : (n k request asked : ℤ) (doc : Doc) (bytes : List ℕ) → n ≡ k → request ≡ asked → bytes ≡ reply n request doc
+    → bytes ≡ reply k asked doc
 told-so n k request asked doc bytes is asked_is told =
     subst (λ number. bytes ≡ reply number asked doc) is (subst (λ r. bytes ≡ reply n r doc) asked_is told)
 
-module _ (m : Message) (replies : ℕ) (n request : ℤ) (n_is : n ≡ number_after replies) (request_is : request ≡ m.request) (before after : Store) (bytes : List ℕ) where
-  pub answered-refusal : (kind : ℕ) (code : Option ℕ) → code ≡ option_map (λ (element : Foreign). element.code) m.foreign → after ≡ before → refusal m ≡ Some kind → bytes ≡ reply n request (document_of (Error kind code)) → Answered m replies before after bytes
+module _ (m : Message) (replies : ℕ) (n request : ℤ) (n_is : n ≡ number_after replies) (request_is : request ≡ m.request)
+    (before after : Store) (bytes : List ℕ) where
+  pub answered-refusal : (kind : ℕ) (code : Option ℕ) → code ≡ option_map (λ (element : Foreign). element.code) m.foreign → after ≡ before
+      → refusal m ≡ Some kind → bytes ≡ reply n request (document_of (Error kind code)) → Answered m replies before after bytes
   unfolding ops_of answer
   answered-refusal kind code code_is same refused is =
-      record { replied = []; all = rw refused tt; ran = λ seat link now. rw refused same; told = rw (refused, ← code_is) (told-so n (number_after replies) request m.request (document_of (Error kind code)) bytes n_is request_is is) }
+      record {
+        replied = [];
+        all = rw refused tt;
+        ran = λ seat link now. rw refused same;
+        told = rw (refused, ← code_is)
+            (told-so n (number_after replies) request m.request (document_of (Error kind code)) bytes n_is request_is is);
+      }
 
-  pub answered-ping : refusal m ≡ None → command.Ping ≡ command_of m → after ≡ before → bytes ≡ reply n request (document_of Done) → Answered m replies before after bytes
+  pub answered-ping : refusal m ≡ None → command.Ping ≡ command_of m → after ≡ before → bytes ≡ reply n request (document_of Done)
+      → Answered m replies before after bytes
   unfolding ops_of answer
-  answered-ping none ping same is = record { replied = []; all = rw (none, ← ping) tt; ran = λ seat link now. rw (none, ← ping) same; told = rw (none, ← ping) (told-so n (number_after replies) request m.request (document_of Done) bytes n_is request_is is) }
+  answered-ping none ping same is = record {
+    replied = [];
+    all = rw (none, ← ping) tt;
+    ran = λ seat link now. rw
+        (none, ← ping) same;
+    told = rw (none, ← ping)
+        (told-so n (number_after replies) request m.request (document_of Done) bytes n_is request_is is);
+  }
 
   done : (it : Op) → Performed it n request before after bytes → Performed it (number_after replies) m.request before after bytes
   done it did = numbered-so it n (number_after replies) request m.request before after bytes n_is request_is did
 
-  pub answered-insert : (it : Op) → refusal m ≡ None → command.Insert it ≡ command_of m → Performed it n request before after bytes → Answered m replies before after bytes
+  pub answered-insert : (it : Op) → refusal m ≡ None → command.Insert it ≡ command_of m → Performed it n request before after bytes
+      → Answered m replies before after bytes
   unfolding ops_of answer
   answered-insert it none insert did =
       let so = done it did in
@@ -91,7 +113,8 @@ module _ (m : Message) (replies : ℕ) (n request : ℤ) (n_is : n ≡ number_af
         told = rw (none, ← insert) so.bytes_are;
       }
 
-  pub answered-find : (it : Op) → refusal m ≡ None → command.Find it ≡ command_of m → Performed it n request before after bytes → Answered m replies before after bytes
+  pub answered-find : (it : Op) → refusal m ≡ None → command.Find it ≡ command_of m → Performed it n request before after bytes
+      → Answered m replies before after bytes
   unfolding ops_of answer
   answered-find it none find did =
       let so = done it did in

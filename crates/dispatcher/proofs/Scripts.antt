@@ -23,27 +23,40 @@ pub bytes_from-append : (k : ℕ) (ts us : List Executed) → bytes_from k (ts +
 bytes_from-append k [] us = ap (λ n. bytes_from n us) (omega arith)
 bytes_from-append k (t ∷ ts) us =
     let next : k + 1 + length ts ≡ k + length (t ∷ ts) = omega arith in
-    rw (bytes_from-append (k + 1) ts us, next) (sym (append_assoc (answer k t.message t.replies) (bytes_from (k + 1) ts) (bytes_from (k + length (t ∷ ts)) us)))
+    rw (bytes_from-append (k + 1) ts us, next)
+    (sym (append_assoc (answer k t.message t.replies) (bytes_from (k + 1) ts) (bytes_from (k + length (t ∷ ts)) us)))
 
 -- what is written for a message that comes after a script
-pub bytes_from-last : (ts : List Executed) (t : Executed) → bytes_from 0 (ts ++ t ∷ []) ≡ bytes_from 0 ts ++ answer (length ts) t.message t.replies
+pub bytes_from-last : (ts : List Executed) (t : Executed)
+    → bytes_from 0 (ts ++ t ∷ []) ≡ bytes_from 0 ts ++ answer (length ts) t.message t.replies
 bytes_from-last ts t =
     bytes_from-append 0 ts (t ∷ [])
-    ∙ ap (λ bytes. bytes_from 0 ts ++ bytes) (ap (λ n. answer n t.message t.replies ++ []) (zero-add (length ts)) ∙ append-nil (answer (length ts) t.message t.replies))
+    ∙ ap (λ bytes. bytes_from 0 ts ++ bytes) (ap (λ n. answer n t.message t.replies ++ []) (zero-add (length ts))
+    ∙ append-nil (answer (length ts) t.message t.replies))
 
 module _ (seat link : ℕ) where
-  ops_from-append : (n : ℕ) (ts us : List Executed) → ops_from seat link n (ts ++ us) ≡ ops_from seat link n ts ++ ops_from seat link (n + length ts) us
+  ops_from-append : (n : ℕ) (ts us : List Executed)
+      → ops_from seat link n (ts ++ us) ≡ ops_from seat link n ts ++ ops_from seat link (n + length ts) us
   ops_from-append n [] us = ap (λ k. ops_from seat link k us) (omega arith)
   ops_from-append n (t ∷ ts) us =
       let next : n + 1 + length ts ≡ n + length (t ∷ ts) = omega arith in
-      rw (ops_from-append (n + 1) ts us, next) (sym (append_assoc (numbered seat link n t.now (ops_of t.message) t.replies) (ops_from seat link (n + 1) ts) (ops_from seat link (n + length (t ∷ ts)) us)))
+      rw (ops_from-append (n + 1) ts us, next)
+      (sym (append_assoc (numbered seat link n t.now (ops_of t.message) t.replies) (ops_from seat link (n + 1) ts)
+      (ops_from seat link (n + length (t ∷ ts)) us)))
 
   -- the operations of a message that comes after a script
-  ops_from-last : (ts : List Executed) (t : Executed) → ops_from seat link 0 (ts ++ t ∷ []) ≡ ops_from seat link 0 ts ++ numbered seat link (length ts) t.now (ops_of t.message) t.replies
+  ops_from-last : (ts : List Executed) (t : Executed)
+      → ops_from seat link 0 (ts ++ t ∷ []) ≡ ops_from seat link 0 ts ++ numbered seat link (length ts) t.now (ops_of t.message) t.replies
   ops_from-last ts t =
       ops_from-append 0 ts (t ∷ [])
-      ∙ ap (λ ds. ops_from seat link 0 ts ++ ds) (ap (λ n. numbered seat link n t.now (ops_of t.message) t.replies ++ []) (zero-add (length ts)) ∙ append-nil (numbered seat link (length ts) t.now (ops_of t.message) t.replies))
+      ∙ ap (λ ds. ops_from seat link 0 ts
+      ++ ds) (ap (λ n. numbered seat link n t.now (ops_of t.message) t.replies ++ []) (zero-add (length ts))
+      ∙ append-nil (numbered seat link (length ts) t.now (ops_of t.message) t.replies))
 
-  pub ran-last : (before mid after : Store) (ts : List Executed) (t : Executed) → run before (ops_from seat link 0 ts) mid → run mid (numbered seat link (length ts) t.now (ops_of t.message) t.replies) after → run before (ops_from seat link 0 (ts ++ t ∷ [])) after
+  pub ran-last : (before mid after : Store) (ts : List Executed) (t : Executed) → run before (ops_from seat link 0 ts) mid
+      → run mid (numbered seat link (length ts) t.now (ops_of t.message) t.replies) after
+      → run before (ops_from seat link 0 (ts ++ t ∷ [])) after
   ran-last before mid after ts t one other =
-      subst (λ ds. run before ds after) (sym (ops_from-last ts t)) (run-append (ops_from seat link 0 ts) (numbered seat link (length ts) t.now (ops_of t.message) t.replies) before mid after one other)
+      subst (λ ds. run before ds after) (sym (ops_from-last ts t))
+      (run-append (ops_from seat link 0 ts)
+      (numbered seat link (length ts) t.now (ops_of t.message) t.replies) before mid after one other)

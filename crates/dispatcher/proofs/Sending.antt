@@ -10,5 +10,6 @@ use Rattle.reply_words.specs.Replies.{namespace}
 -- the full name of a collection that may be
 pub is_short : (space : Space) → IsNamed space → length (namespace space) ≤ 255
 is_short space named =
-    let all : length space.db + 1 + length space.coll ≤ 255 = leb-true _ _ ((and-both _ (leb (length space.db + 1 + length space.coll) 255) named.1).1) in
+    let all : length space.db + 1 + length space.coll ≤ 255 = leb-true _ _
+    ((and-both _ (leb (length space.db + 1 + length space.coll) 255) named.1).1) in
     omega (arith, all, length-append (space.db ++ codes ".") space.coll, length-append space.db (codes "."))

@@ -36,7 +36,8 @@ ops_of m = if is_some (refusal m) then [] else ops_in (command_of m)
 -- operations with their replies, numbered from n on
 abbrev pub numbered : ℕ → ℕ → ℕ → ℕ → List Op → List OpReply → List Done
 numbered seat link n now (op ∷ ops) (reply ∷ replies) =
-    record { who = record { seat = seat; link = link; op = n }; now = now; op = op; reply = reply } ∷ numbered seat link (n + 1) now ops replies
+    record { who = record { seat = seat; link = link; op = n }; now = now; op = op; reply = reply } ∷ numbered seat link
+    (n + 1) now ops replies
 numbered seat link n now ops replies = []
 
 -- the operations of a script; each message takes one number

@@ -25,13 +25,15 @@ id-swaps [] (other ∷ others) = refl
 id-swaps (one ∷ ones) [] = refl
 
 -- a document that has none of the `_id`s goes last
-not-last : (one doc : List (Pair Value)) (docs : List (List (Pair Value))) → has_id one docs ≡ false → same_id doc one ≡ false → has_id one (docs ++ doc ∷ []) ≡ false
+not-last : (one doc : List (Pair Value)) (docs : List (List (Pair Value))) → has_id one docs ≡ false → same_id doc one ≡ false
+    → has_id one (docs ++ doc ∷ []) ≡ false
 not-last one doc [] none apart = rw (id-swaps one doc, apart) refl
 not-last one doc (d ∷ ds) none apart =
     let parts = or_parts (same_id one d) (has_id one ds) none in
     or_from (same_id one d) (has_id one (ds ++ doc ∷ [])) parts.0 (not-last one doc ds parts.1 apart)
 
-own-last : (doc : List (Pair Value)) (docs : List (List (Pair Value))) → HaveOwnIds docs → has_id doc docs ≡ false → HaveOwnIds (docs ++ doc ∷ [])
+own-last : (doc : List (Pair Value)) (docs : List (List (Pair Value))) → HaveOwnIds docs → has_id doc docs ≡ false
+    → HaveOwnIds (docs ++ doc ∷ [])
 own-last doc [] own new = (refl, tt)
 own-last doc (d ∷ ds) own new =
     let parts = or_parts (same_id doc d) (has_id doc ds) new in
@@ -42,18 +44,22 @@ landed-own space doc s t landed own other = cases (same_space other space) refl
   where
     cases : (b : Bool) → same_space other space ≡ b → HaveOwnIds (docs_of other t)
     cases true e =
-        let here : HaveOwnIds (docs_of space t) = subst HaveOwnIds (sym landed.last) (own-last doc (docs_of space s) (own space) landed.new) in
+        let here : HaveOwnIds (docs_of space t) = subst HaveOwnIds (sym landed.last)
+        (own-last doc (docs_of space s) (own space) landed.new) in
         subst (λ (x : Space). HaveOwnIds (docs_of x t)) (sym (space-equal other space e)) here
     cases false e = subst HaveOwnIds (sym (landed.others other e)) (own other)
 
 -- what was meant keeps it
-meant-own : (who : Who) (now : ℕ) (op : Op) (s : Store) (reply : OpReply) (t : Store) → record { reply = reply; store = t } ≡ meant who now op s → IdsAreOwn s → IdsAreOwn t
+meant-own : (who : Who) (now : ℕ) (op : Op) (s : Store) (reply : OpReply) (t : Store)
+    → record { reply = reply; store = t } ≡ meant who now op s → IdsAreOwn s → IdsAreOwn t
 meant-own who now (Insert space doc) s reply t is own =
-    ⊎_elim (λ refused. subst IdsAreOwn (sym refused.1) own) (λ landed. landed-own space doc s t landed own) (insert-came reply space doc s t is)
+    ⊎_elim (λ refused. subst IdsAreOwn (sym refused.1) own) (λ landed. landed-own space doc s t landed own)
+    (insert-came reply space doc s t is)
 meant-own who now (Find space) s reply t is own = subst IdsAreOwn (sym (ap (λ (m : Meant). m.store) is)) own
 
 -- and so does every step
-step-own : (who : Who) (now : ℕ) (op : Op) (s : Store) (reply : OpReply) (t : Store) → step who now op s reply t → IdsAreOwn s → IdsAreOwn t
+step-own : (who : Who) (now : ℕ) (op : Op) (s : Store) (reply : OpReply) (t : Store) → step who now op s reply t → IdsAreOwn s
+    → IdsAreOwn t
 step-own who now op s NoMemory t is own = subst IdsAreOwn (sym is) own
 step-own who now op s Inserted t is own = meant-own who now op s Inserted t is own
 step-own who now op s (Selected docs) t is own = meant-own who now op s (Selected docs) t is own

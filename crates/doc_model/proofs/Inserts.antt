@@ -1,5 +1,6 @@
 -- What an insert does to the documents of its space, and of others.
-use Rattle.std.proofs.Common.{◌≡◌, ◌⊎◌, inl, inr, ⊎_elim, ℕ, Bool, true, false, nat_le, List, [], ◌∷◌, ◌++◌, length, Option, None, Some, refl, ap, sym, ◌∙◌, subst}
+use Rattle.std.proofs.Common.{◌≡◌, ◌⊎◌, inl, inr, ⊎_elim, ℕ, Bool, true, false, nat_le, List, [], ◌∷◌, ◌++◌, length, Option, None, Some}
+use Rattle.std.proofs.Common.{refl, ap, sym, ◌∙◌, subst}
 use Rattle.std.proofs.lemmas.Bool.{and_parts}
 use Rattle.std.proofs.lemmas.Slice.Eq.{bytes_eq-Decides}
 use Rattle.std.specs.Str.{bytes_eq}
@@ -32,11 +33,14 @@ abbrev created : Space → Doc → Collection
 created space doc = record { space = space; docs = doc ∷ [] }
 
 -- the document stands last in its collection
-docs-last : (space : Space) (doc : Doc) (cs : List Collection) (c : Collection) → collection_of space cs ≡ Some c → docs_in (collection_of space (with_last space doc cs)) ≡ c.docs ++ doc ∷ []
+docs-last : (space : Space) (doc : Doc) (cs : List Collection) (c : Collection) → collection_of space cs ≡ Some c
+    → docs_in (collection_of space (with_last space doc cs)) ≡ c.docs ++ doc ∷ []
 docs-last space doc [] c found = absurd cc
 docs-last space doc (d ∷ ds) c found = cases (same_space space d.space) refl (λ further. docs-last space doc ds c further)
   where
-    cases : (b : Bool) → same_space space d.space ≡ b → (collection_of space ds ≡ Some c → docs_in (collection_of space (with_last space doc ds)) ≡ c.docs ++ doc ∷ []) → docs_in (collection_of space (with_last space doc (d ∷ ds))) ≡ c.docs ++ doc ∷ []
+    cases : (b : Bool) → same_space space d.space ≡ b
+        → (collection_of space ds ≡ Some c → docs_in (collection_of space (with_last space doc ds)) ≡ c.docs ++ doc ∷ [])
+        → docs_in (collection_of space (with_last space doc (d ∷ ds))) ≡ c.docs ++ doc ∷ []
     cases true e rest =
         let here : Some d ≡ Some c = rw e at found in
         let same : d ≡ c = cc in
@@ -44,34 +48,45 @@ docs-last space doc (d ∷ ds) c found = cases (same_space space d.space) refl (
     cases false e rest = rw e (rw e (rest (rw e at found)))
 
 -- or in the one that was created last
-docs-created : (space : Space) (doc : Doc) (cs : List Collection) → collection_of space cs ≡ None → docs_in (collection_of space (cs ++ created space doc ∷ [])) ≡ doc ∷ []
+docs-created : (space : Space) (doc : Doc) (cs : List Collection) → collection_of space cs ≡ None
+    → docs_in (collection_of space (cs ++ created space doc ∷ [])) ≡ doc ∷ []
 docs-created space doc [] absent = rw (space-same space) refl
 docs-created space doc (d ∷ ds) absent = cases (same_space space d.space) refl (λ further. docs-created space doc ds further)
   where
-    cases : (b : Bool) → same_space space d.space ≡ b → (collection_of space ds ≡ None → docs_in (collection_of space (ds ++ created space doc ∷ [])) ≡ doc ∷ []) → docs_in (collection_of space ((d ∷ ds) ++ created space doc ∷ [])) ≡ doc ∷ []
+    cases : (b : Bool) → same_space space d.space ≡ b
+        → (collection_of space ds ≡ None → docs_in (collection_of space (ds ++ created space doc ∷ [])) ≡ doc ∷ [])
+        → docs_in (collection_of space ((d ∷ ds) ++ created space doc ∷ [])) ≡ doc ∷ []
     cases true e rest = let here : Some d ≡ None = rw e at absent in absurd cc
     cases false e rest = rw e (rest (rw e at absent))
 
 -- every other space has the documents that it had
-others-last : (space other : Space) (doc : Doc) (cs : List Collection) → same_space other space ≡ false → docs_in (collection_of other (with_last space doc cs)) ≡ docs_in (collection_of other cs)
+others-last : (space other : Space) (doc : Doc) (cs : List Collection) → same_space other space ≡ false
+    → docs_in (collection_of other (with_last space doc cs)) ≡ docs_in (collection_of other cs)
 others-last space other doc [] apart = refl
 others-last space other doc (d ∷ ds) apart = cases (same_space space d.space) refl (others-last space other doc ds apart)
   where
-    cases : (b : Bool) → same_space space d.space ≡ b → docs_in (collection_of other (with_last space doc ds)) ≡ docs_in (collection_of other ds) → docs_in (collection_of other (with_last space doc (d ∷ ds))) ≡ docs_in (collection_of other (d ∷ ds))
+    cases : (b : Bool) → same_space space d.space ≡ b
+        → docs_in (collection_of other (with_last space doc ds)) ≡ docs_in (collection_of other ds)
+        → docs_in (collection_of other (with_last space doc (d ∷ ds))) ≡ docs_in (collection_of other (d ∷ ds))
     cases true e rest =
-        let away : same_space other d.space ≡ false = subst (λ (x : Space). same_space other x ≡ false) (space-equal space d.space e) apart in
+        let away : same_space other d.space ≡ false = subst (λ (x : Space). same_space other x ≡ false)
+        (space-equal space d.space e) apart in
         rw e (rw away refl)
     cases false e rest = rw e (deeper (same_space other d.space) refl)
       where
-        deeper : (b : Bool) → same_space other d.space ≡ b → docs_in (collection_of other (d ∷ with_last space doc ds)) ≡ docs_in (collection_of other (d ∷ ds))
+        deeper : (b : Bool) → same_space other d.space ≡ b
+            → docs_in (collection_of other (d ∷ with_last space doc ds)) ≡ docs_in (collection_of other (d ∷ ds))
         deeper true there = rw there refl
         deeper false away = rw away rest
 
-others-created : (space other : Space) (doc : Doc) (cs : List Collection) → same_space other space ≡ false → docs_in (collection_of other (cs ++ created space doc ∷ [])) ≡ docs_in (collection_of other cs)
+others-created : (space other : Space) (doc : Doc) (cs : List Collection) → same_space other space ≡ false
+    → docs_in (collection_of other (cs ++ created space doc ∷ [])) ≡ docs_in (collection_of other cs)
 others-created space other doc [] apart = rw apart refl
 others-created space other doc (d ∷ ds) apart = cases (same_space other d.space) refl (others-created space other doc ds apart)
   where
-    cases : (b : Bool) → same_space other d.space ≡ b → docs_in (collection_of other (ds ++ created space doc ∷ [])) ≡ docs_in (collection_of other ds) → docs_in (collection_of other ((d ∷ ds) ++ created space doc ∷ [])) ≡ docs_in (collection_of other (d ∷ ds))
+    cases : (b : Bool) → same_space other d.space ≡ b
+        → docs_in (collection_of other (ds ++ created space doc ∷ [])) ≡ docs_in (collection_of other ds)
+        → docs_in (collection_of other ((d ∷ ds) ++ created space doc ∷ [])) ≡ docs_in (collection_of other (d ∷ ds))
     cases true e rest = rw e refl
     cases false e rest = rw e rest
 
@@ -86,10 +101,12 @@ abbrev pub Came : OpReply → Space → Doc → Store → Store → Type 0
 Came reply space doc s t = (((kind : ℕ) × (reply ≡ Refused kind)) × (t ≡ s)) ⊎ Landed space doc s t
 
 -- a refusal
-abbrev came-refused : (reply : OpReply) (space : Space) (doc : Doc) (s t : Store) (kind : ℕ) → record { reply = reply; store = t } ≡ refused kind s → Came reply space doc s t
+abbrev came-refused : (reply : OpReply) (space : Space) (doc : Doc) (s t : Store) (kind : ℕ)
+    → record { reply = reply; store = t } ≡ refused kind s → Came reply space doc s t
 came-refused reply space doc s t kind is = inl ((kind, ap (λ (m : Meant). m.reply) is), ap (λ (m : Meant). m.store) is)
 
-came : (reply : OpReply) (space : Space) (doc : Doc) (s t : Store) (found : Option Collection) → collection_of space s.collections ≡ found → record { reply = reply; store = t } ≡ inserted space doc s found → Came reply space doc s t
+came : (reply : OpReply) (space : Space) (doc : Doc) (s t : Store) (found : Option Collection) → collection_of space s.collections ≡ found
+    → record { reply = reply; store = t } ≡ inserted space doc s found → Came reply space doc s t
 came reply space doc s t (Some c) found is = cases (has_id doc c.docs) refl (are_spent 1 s) refl
   where
     cases : (twice : Bool) → has_id doc c.docs ≡ twice → (spent : Bool) → are_spent 1 s ≡ spent → Came reply space doc s t
@@ -101,12 +118,15 @@ came reply space doc s t (Some c) found is = cases (has_id doc c.docs) refl (are
         let before = ap docs_in found in
         inr record {
           new = subst (λ (ds : List Doc). has_id doc ds ≡ false) (sym before) there;
-          last = ap (λ (cs : List Collection). docs_in (collection_of space cs)) after ∙ docs-last space doc s.collections c found ∙ ap (λ (ds : List Doc). ds ++ doc ∷ []) (sym before);
-          others = λ other apart. ap (λ (cs : List Collection). docs_in (collection_of other cs)) after ∙ others-last space other doc s.collections apart;
+          last = ap (λ (cs : List Collection). docs_in (collection_of space cs)) after ∙ docs-last space doc s.collections c found
+              ∙ ap (λ (ds : List Doc). ds ++ doc ∷ []) (sym before);
+          others = λ other apart. ap (λ (cs : List Collection). docs_in (collection_of other cs)) after
+              ∙ others-last space other doc s.collections apart;
         }
 came reply space doc s t None found is = cases (nat_le MOST_COLLECTIONS (length s.collections)) refl (are_spent 2 s) refl
   where
-    cases : (full : Bool) → nat_le MOST_COLLECTIONS (length s.collections) ≡ full → (spent : Bool) → are_spent 2 s ≡ spent → Came reply space doc s t
+    cases : (full : Bool) → nat_le MOST_COLLECTIONS (length s.collections) ≡ full → (spent : Bool) → are_spent 2 s ≡ spent
+        → Came reply space doc s t
     cases true full spent q = came-refused reply space doc s t 34 (rw full at is)
     cases false full true q = came-refused reply space doc s t 33 (rw q at (rw full at is))
     cases false full false q =
@@ -115,20 +135,26 @@ came reply space doc s t None found is = cases (nat_le MOST_COLLECTIONS (length 
         let before = ap docs_in found in
         inr record {
           new = subst (λ (ds : List Doc). has_id doc ds ≡ false) (sym before) refl;
-          last = ap (λ (cs : List Collection). docs_in (collection_of space cs)) after ∙ docs-created space doc s.collections found ∙ ap (λ (ds : List Doc). ds ++ doc ∷ []) (sym before);
-          others = λ other apart. ap (λ (cs : List Collection). docs_in (collection_of other cs)) after ∙ others-created space other doc s.collections apart;
+          last = ap (λ (cs : List Collection). docs_in (collection_of space cs)) after ∙ docs-created space doc s.collections found
+              ∙ ap (λ (ds : List Doc). ds ++ doc ∷ []) (sym before);
+          others = λ other apart. ap (λ (cs : List Collection). docs_in (collection_of other cs)) after
+              ∙ others-created space other doc s.collections apart;
         }
 
 -- an insert is refused, and changes nothing, or the document went in
-pub insert-came : (reply : OpReply) (space : Space) (doc : Doc) (s t : Store) → record { reply = reply; store = t } ≡ inserted space doc s (collection_of space s.collections) → Came reply space doc s t
+pub insert-came : (reply : OpReply) (space : Space) (doc : Doc) (s t : Store)
+    → record { reply = reply; store = t } ≡ inserted space doc s (collection_of space s.collections) → Came reply space doc s t
 insert-came reply space doc s t is = came reply space doc s t (collection_of space s.collections) refl is
 
 -- one that is replied `Inserted` went in
-pub insert-landed : (space : Space) (doc : Doc) (s t : Store) → record { reply = Inserted; store = t } ≡ inserted space doc s (collection_of space s.collections) → Landed space doc s t
-insert-landed space doc s t is = ⊎_elim (λ refused. let kind = refused.0.1 in absurd cc) (λ landed. landed) (insert-came Inserted space doc s t is)
+pub insert-landed : (space : Space) (doc : Doc) (s t : Store)
+    → record { reply = Inserted; store = t } ≡ inserted space doc s (collection_of space s.collections) → Landed space doc s t
+insert-landed space doc s t is =
+    ⊎_elim (λ refused. let kind = refused.0.1 in absurd cc) (λ landed. landed) (insert-came Inserted space doc s t is)
 
 -- a refused insert changes nothing
-pub insert-refused : (kind : ℕ) (space : Space) (doc : Doc) (s t : Store) (found : Option Collection) → record { reply = Refused kind; store = t } ≡ inserted space doc s found → t ≡ s
+pub insert-refused : (kind : ℕ) (space : Space) (doc : Doc) (s t : Store) (found : Option Collection)
+    → record { reply = Refused kind; store = t } ≡ inserted space doc s found → t ≡ s
 insert-refused kind space doc s t (Some c) is = cases (has_id doc c.docs) refl (are_spent 1 s) refl
   where
     cases : (twice : Bool) → has_id doc c.docs ≡ twice → (spent : Bool) → are_spent 1 s ≡ spent → t ≡ s

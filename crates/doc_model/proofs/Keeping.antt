@@ -1,5 +1,6 @@
 -- The plain store's collections, by their places.
-use Rattle.std.proofs.Common.{◌≡◌, ℕ, zero, suc, ◌<◌, ◌≤◌, Bool, true, false, cond, ltb, List, [], ◌∷◌, ◌++◌, length, get_or, set, refl, sym, ap, arith}
+use Rattle.std.proofs.Common.{◌≡◌, ℕ, zero, suc, ◌<◌, ◌≤◌, Bool, true, false, cond, ltb, List, [], ◌∷◌, ◌++◌, length, get_or, set, refl}
+use Rattle.std.proofs.Common.{sym, ap, arith}
 use Rattle.std.specs.Prelude.{Option, None, Some, unwrap_or}
 use Rattle.std.specs.List.{position, position_or_len}
 use Rattle.std.proofs.lemmas.Bool.{ltb-false, ltb-true}
@@ -20,8 +21,10 @@ module _ (space : Space) where
   longer c doc = record c { docs = c.docs ++ doc ∷ [] }
 
   -- the first collection of the space is the one that is found and that grows
-  found-at : (cs : List Collection) (i : ℕ) (d : Collection) → i < length cs → is_of (get_or cs i d) ≡ true → ((k : ℕ) → k < i → is_of (get_or cs k d) ≡ false)
-      → (collection_of space cs ≡ Some (get_or cs i d)) × ((doc : List (Pair Value)) → with_last space doc cs ≡ set cs i (longer (get_or cs i d) doc))
+  found-at : (cs : List Collection) (i : ℕ) (d : Collection) → i < length cs → is_of (get_or cs i d) ≡ true
+      → ((k : ℕ) → k < i → is_of (get_or cs k d) ≡ false)
+      → (collection_of space cs ≡ Some (get_or cs i d)) × ((doc : List (Pair Value))
+      → with_last space doc cs ≡ set cs i (longer (get_or cs i d) doc))
   unfolding is_of longer
   found-at [] i d within here before = absurd (omega (arith, within))
   found-at (c ∷ cs) zero d within here before = (rw here refl, λ doc. rw here refl)
@@ -30,7 +33,8 @@ module _ (space : Space) where
       let later = found-at cs i d (omega (arith, within)) here (λ k low. before (suc k) (omega (arith, low))) in
       (rw first later.0, λ doc. rw first (ap (λ rest. c ∷ rest) (later.1 doc)))
 
-  step-none : (c : Collection) (cs : List Collection) (test : Bool) → is_of c ≡ test → length (c ∷ cs) ≤ position_or_len is_of (c ∷ cs) → (test ≡ false) × (length cs ≤ position_or_len is_of cs)
+  step-none : (c : Collection) (cs : List Collection) (test : Bool) → is_of c ≡ test → length (c ∷ cs) ≤ position_or_len is_of (c ∷ cs)
+      → (test ≡ false) × (length cs ≤ position_or_len is_of cs)
   step-none c cs true is past = absurd (omega (arith, rw is at past))
   step-none c cs false is past = (refl, omega (arith, rw is at past))
 
@@ -46,15 +50,18 @@ module _ (space : Space) where
   is-none cs true place is = absurd cc
   is-none cs false place is = refl
 
-  within-test : (cs : List Collection) (test : Bool) → ltb (position_or_len is_of cs) (length cs) ≡ test → (place : ℕ) → cond test (Some (position_or_len is_of cs)) None ≡ Some place → place < length cs
+  within-test : (cs : List Collection) (test : Bool) → ltb (position_or_len is_of cs) (length cs) ≡ test → (place : ℕ)
+      → cond test (Some (position_or_len is_of cs)) None ≡ Some place → place < length cs
   within-test cs true test place is = omega (arith, ltb-true _ _ test, ap (λ (it : Option ℕ). unwrap_or it 0) is)
   within-test cs false test place is = absurd cc
 
   position-within : (cs : List Collection) (place : ℕ) → position is_of cs ≡ Some place → place < length cs
   position-within cs place is = within-test cs (ltb (position_or_len is_of cs) (length cs)) refl place is
 
-  pub stands : (cs : List Collection) (found : Option ℕ) → found ≡ position (λ kept. same_space space kept.space) cs → Stands space cs found
+  pub stands : (cs : List Collection) (found : Option ℕ) → found ≡ position (λ kept. same_space space kept.space) cs
+      → Stands space cs found
   unfolding is_of longer
-  stands cs None is = none-at cs (ltb-false _ _ (is-none cs (ltb (position_or_len is_of cs) (length cs)) (position_or_len is_of cs) (sym is)))
+  stands cs None is = none-at cs
+      (ltb-false _ _ (is-none cs (ltb (position_or_len is_of cs) (length cs)) (position_or_len is_of cs) (sym is)))
   stands cs (Some place) is =
       (position-within cs place (sym is), λ d. let at = position-Some is_of cs place d (sym is) in found-at cs place d at.0 at.1 at.2)

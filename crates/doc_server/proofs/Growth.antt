@@ -1,5 +1,6 @@
 -- Pieces that come one after another.
-use Rattle.std.proofs.Common.{◌≡◌, ℕ, ◌+◌, ◌≤◌, List, [], ◌++◌, length, take, drop, refl, ap, arith, sym, ◌∙◌, append_assoc, length-take, length-drop}
+use Rattle.std.proofs.Common.{◌≡◌, ℕ, ◌+◌, ◌≤◌, List, [], ◌++◌, length, take, drop, refl, ap, arith, sym, ◌∙◌, append_assoc, length-take}
+use Rattle.std.proofs.Common.{length-drop}
 use Rattle.std.proofs.lemmas.List.{append-nil, take-append-drop}
 use Rattle.std.proofs.Math.Seq.{take-append-add}
 use Rattle.std.specs.Prelude.{Option, None, Some}
@@ -37,7 +38,8 @@ take-further xs at n within =
     rw (front, take-append-drop) at (take-append-add (take at xs) (drop at xs) n)
 
 -- a further piece of the same bytes
-pub grows-further : (old mid new : Option (List ℕ)) (bytes rest : List ℕ) (at n : ℕ) → at ≤ length bytes → rest ≡ drop at bytes → Grows old mid (take at bytes) → Grows mid new (take n rest) → Grows old new (take (at + n) bytes)
+pub grows-further : (old mid new : Option (List ℕ)) (bytes rest : List ℕ) (at n : ℕ) → at ≤ length bytes → rest ≡ drop at bytes
+    → Grows old mid (take at bytes) → Grows mid new (take n rest) → Grows old new (take (at + n) bytes)
 grows-further old mid new bytes rest at n within is first second =
     rw (take-further bytes at n within) (grows-on old mid new (take at bytes) (take n (drop at bytes)) first (rw is at second))
 

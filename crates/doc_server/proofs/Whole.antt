@@ -43,7 +43,8 @@ timed-fresh NoMemory old new all none (inl timed) = inl (grows-fresh old new all
 timed-fresh NoMemory old new all none (inr timed) = inr (timed.0, grows-fresh old new (all ++ timed.0 ∷ []) none timed.1)
 
 -- the whole of an input is framed, and the end is as its rest shows
-framed : (why : Why) (input all rest left : List ℕ) (ms : List Message) → in_order input ms (rest ++ left) → Ends why all rest → AtEnd why (Some left)
+framed : (why : Why) (input all rest left : List ℕ) (ms : List Message) → in_order input ms (rest ++ left) → Ends why all rest
+    → AtEnd why (Some left)
     → Shows why (frames input ms (rest ++ left)) (rest ++ left)
 framed Closed input all rest left ms order ends at_end =
     let is : rest ++ left ≡ [] = ap (λ l. rest ++ l) at_end ∙ append-nil rest ∙ ends.0 in
@@ -60,14 +61,18 @@ framed WriteFault input all rest left ms order ends at_end = tt
 framed Long input all rest left ms order ends at_end = tt
 framed NoMemory input all rest left ms order ends at_end = tt
 
-is-whole : (why : Why) (input left : Option (List ℕ)) (all rest : List ℕ) (ms : List Message) → Shrinks input left all → in_order all ms rest → Ends why all rest → AtEnd why left → IsWhole why input left ms rest
+is-whole : (why : Why) (input left : Option (List ℕ)) (all rest : List ℕ) (ms : List Message) → Shrinks input left all
+    → in_order all ms rest → Ends why all rest → AtEnd why left → IsWhole why input left ms rest
 is-whole why None left all rest ms came order ends at_end = tt
 is-whole why (Some input) None all rest ms came order ends at_end = tt
 is-whole why (Some input) (Some left) all rest ms came order ends at_end =
-    framed why input all rest left ms (subst (λ b. in_order b ms (rest ++ left)) (sym came) (in_order-more all left rest ms order)) ends at_end
+    framed why input all rest left ms (subst (λ b. in_order b ms (rest
+    ++ left)) (sym came) (in_order-more all left rest ms order)) ends at_end
 
 -- what a served link tells, where it was fresh and its store empty
-pub spoken : (seat number : ℕ) (input : Option (List ℕ)) (old new : Scene) (before after : Store) (why : Why) (commands : ℕ) → before ≡ empty_store → Tells old.took [] → Tells old.wrote [] → Tells old.moments [] → old.left ≡ input → Talks seat number old new before after why commands → AtEnd why new.left
+pub spoken : (seat number : ℕ) (input : Option (List ℕ)) (old new : Scene) (before after : Store) (why : Why) (commands : ℕ)
+    → before ≡ empty_store → Tells old.took [] → Tells old.wrote [] → Tells old.moments [] → old.left ≡ input
+    → Talks seat number old new before after why commands → AtEnd why new.left
     → Spoken seat number input new after why commands
 spoken seat number input old new before after why commands empty took wrote timed left talks at_end =
     let talk = talks.3 in
@@ -81,5 +86,12 @@ spoken seat number input old new before after why commands empty took wrote time
       count = talk.count;
       sound = talk.sound;
       ran = subst (λ s. run s (ops_from seat number 0 talks.1) after) empty talk.ran;
-    } in
-    (talks.0, talks.1, talks.2, whole, talks.4, is-whole why input new.left talks.0 talks.2 (messages talks.1) came talk.order talks.4 at_end)
+    } in (
+      talks.0,
+      talks.1,
+      talks.2,
+      whole,
+      talks.4,
+      is-whole why input new.left talks.0 talks.2
+          (messages talks.1) came talk.order talks.4 at_end,
+    )

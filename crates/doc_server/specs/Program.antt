@@ -29,7 +29,8 @@ status_of Long = 10
 abbrev pub fresh : Option (List ℕ) → Scene
 fresh input = record { took = Some []; left = input; wrote = Some []; moments = Some [] }
 
--- What the end says of a whole input, whose messages and rest these facts frame: the end is as that rest shows. Nothing, where the connection
+-- What the end says of a whole input, whose messages and rest these facts frame: the end is as that rest shows. Nothing, where the
+-- connection
 -- was cut off: a call failed, memory ran out, or more came than is read of one connection.
 abbrev pub Shows : Why → Type 0 → List ℕ → Type 0
 Shows Closed Framed rest = Framed × (rest ≡ [])
@@ -42,7 +43,8 @@ abbrev pub IsWhole : Why → Option (List ℕ) → Option (List ℕ) → List Me
 IsWhole why (Some input) (Some left) ms rest = Shows why (frames input ms (rest ++ left)) (rest ++ left)
 IsWhole why input left ms rest = Unit {0}
 
--- A connection of that seat and number from its first call to its end: what came of the input is the messages of one script and a rest, which
+-- A connection of that seat and number from its first call to its end: what came of the input is the messages of one script and a rest,
+-- which
 -- shows the end; their answers were written, and the replies in them are a run of the one-thread store from the empty one to the one that
 -- is left; and, unless it was cut off, they are all the messages of the whole input.
 abbrev pub Spoken : ℕ → ℕ → Option (List ℕ) → Scene → Store → Why → ℕ → Type 0

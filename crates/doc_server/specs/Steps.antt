@@ -42,7 +42,8 @@ Stops _ count buffer piece = ⊥
 
 -- a piece came and was kept, or the input ends
 abbrev pub Fetches : Result ℕ Why → List ℕ → ℕ → List ℕ → List ℕ → Type 0
-Fetches (Ok came) piece count buffer buffer' = (length piece ≡ came) × (0 < came) × (count + came ≤ MOST_READ) × (buffer' ≡ buffer ++ piece)
+Fetches (Ok came) piece count buffer buffer' = (length piece ≡ came) × (0 < came) × (count + came ≤ MOST_READ)
+    × (buffer' ≡ buffer ++ piece)
 Fetches (Err end) piece count buffer buffer' = Stops end count buffer piece
 
 -- a link gave a piece, and took nothing

@@ -56,9 +56,12 @@ pub record Scene : Type 0 where
 abbrev pub scene : Option (List ℕ) → Option (List ℕ) → Option (List ℕ) → Option (List ℕ) → Scene
 scene took left wrote moments = record { took = took; left = left; wrote = wrote; moments = moments }
 
--- The connection of that seat and number, from where it and the store began to where they stand: these bytes came, of what was left; they are
--- the messages of the script and a rest; their answers were written, and their moments given; and their operations were a run of the store.
-pub record Talk (seat number : ℕ) (old new : Scene) (before after : Store) (why : Why) (commands : ℕ) (all : List ℕ) (script : List Executed) (rest : List ℕ) : Type 0 where
+-- The connection of that seat and number, from where it and the store began to where they stand: these bytes came, of what was left; they
+-- are
+-- the messages of the script and a rest; their answers were written, and their moments given; and their operations were a run of the
+-- store.
+pub record Talk (seat number : ℕ) (old new : Scene) (before after : Store) (why : Why) (commands : ℕ) (all : List ℕ)
+    (script : List Executed) (rest : List ℕ) : Type 0 where
   pub taken : Grows old.took new.took all
   pub came : Shrinks old.left new.left all
   pub order : in_order all (messages script) rest

@@ -1,5 +1,6 @@
 -- What a link in memory gives: its input, cut into reads, and the moments of its clock.
-use Rattle.std.specs.Prelude.{ℕ, zero, suc, ◌≡◌, ◌-◌, ◌^◌, nat_lt, min, max, List, [], ◌∷◌, ◌++◌, length, take, drop, slice_get, unwrap_or, Option, None, Some, if◌then◌else◌}
+use Rattle.std.specs.Prelude.{ℕ, zero, suc, ◌≡◌, ◌-◌, ◌^◌, nat_lt, min, max, List, [], ◌∷◌, ◌++◌, length, take, drop}
+use Rattle.std.specs.Prelude.{slice_get, unwrap_or, Option, None, Some, if◌then◌else◌}
 use Rattle.outside.specs.Counts.{raised}
 
 -- the bytes given and those that are left; the number of the next read, and of the clock's next moment

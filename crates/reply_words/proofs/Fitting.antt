@@ -1,5 +1,6 @@
 -- How long the documents of replies are.
-use Rattle.std.proofs.Common.{◌≡◌, ℕ, pos, ◌+◌, ◌*◌, ◌≤◌, Bool, true, false, cond, leb, eqb, List, [], ◌∷◌, ◌++◌, length, map, sym, ◌∙◌, arith, length-append}
+use Rattle.std.proofs.Common.{◌≡◌, ℕ, pos, ◌+◌, ◌*◌, ◌≤◌, Bool, true, false, cond, leb, eqb, List, [], ◌∷◌, ◌++◌, length, map, sym, ◌∙◌}
+use Rattle.std.proofs.Common.{arith, length-append}
 use Rattle.std.specs.Prelude.{codes, Option, None, Some}
 use Rattle.std.proofs.lemmas.Bool.{leb-true}
 use Rattle.std_words.proofs.Tests.{and-both}
@@ -38,7 +39,13 @@ sentence_short : (kind : ℕ) (code : Option ℕ) → length (sentence kind code
 sentence_short kind None = omega (arith, text_short kind)
 sentence_short kind (Some code) =
     one_of (eqb kind 2) (text_of kind ++ named (type_name_of code)) (text_of kind)
-    (omega (arith, text_short kind, named_short (type_name_of code) (type_name_short code), length-append (text_of kind) (named (type_name_of code))))
+    (omega (
+      arith,
+      text_short kind,
+      named_short (type_name_of code) (type_name_short code),
+      length-append (text_of kind)
+          (named (type_name_of code)),
+    ))
     (omega (arith, text_short kind))
 
 item_short : (kind : ℕ) → length (spell (item_error 0 kind)) ≤ 200
@@ -57,11 +64,14 @@ item_short kind =
     )
 
 -- documents as items, with their names
-items_short : (place : ℕ) (docs : List (List (Pair Value))) → place + length docs ≤ 1000 → items_size place (map value_size (map value.Doc docs)) ≤ total_size docs + 22 * length docs
+items_short : (place : ℕ) (docs : List (List (Pair Value))) → place + length docs ≤ 1000
+    → items_size place (map value_size (map value.Doc docs)) ≤ total_size docs + 22 * length docs
 items_short place [] few = omega arith
-items_short place (doc ∷ docs) few = omega (arith, few, digits_few place (omega (arith, few)), items_short (place + 1) docs (omega (arith, few)))
+items_short place (doc ∷ docs) few = omega
+    (arith, few, digits_few place (omega (arith, few)), items_short (place + 1) docs (omega (arith, few)))
 
-cursor_short : (space : Space) (docs : List (List (Pair Value))) → IsSmall (Batch space docs) → length (spell (cursor space docs)) ≤ 16780000
+cursor_short : (space : Space) (docs : List (List (Pair Value))) → IsSmall (Batch space docs)
+    → length (spell (cursor space docs)) ≤ 16780000
 cursor_short space docs small =
     let items = map value.Doc docs in
     let one : List (Pair Value) = field "firstBatch" (value.Arr (map value.Doc docs)) ∷ [] in

@@ -13,17 +13,20 @@ bind_ok (Ok first) next value is = (first, refl, is)
 bind_ok (Err fault) next value is = absurd cc
 
 -- where nothing behind a step can fail, the step did
-pub bind_err : {A B E : Type 0} (found : Result A E) (next : A → B) (fault : E) → (found >>= λ it. Ok (next it)) ≡ Err fault → found ≡ Err fault
+pub bind_err : {A B E : Type 0} (found : Result A E) (next : A → B) (fault : E) → (found >>= λ it. Ok (next it)) ≡ Err fault
+    → found ≡ Err fault
 bind_err (Err other) next fault is = cc
 bind_err (Ok it) next fault is = absurd cc
 
 -- a test that did not refuse
-pub unless_ok : {A E : Type 0} (refuse : Bool) (fault : E) (found : Result A E) (value : A) → (if refuse then Err fault else found) ≡ Ok value → (refuse ≡ false) × (found ≡ Ok value)
+pub unless_ok : {A E : Type 0} (refuse : Bool) (fault : E) (found : Result A E) (value : A)
+    → (if refuse then Err fault else found) ≡ Ok value → (refuse ≡ false) × (found ≡ Ok value)
 unless_ok true fault found value is = absurd cc
 unless_ok false fault found value is = (refl, is)
 
 -- a test that held
-pub when_ok : {A E : Type 0} (test : Bool) (fault : E) (found : Result A E) (value : A) → (if test then found else Err fault) ≡ Ok value → (test ≡ true) × (found ≡ Ok value)
+pub when_ok : {A E : Type 0} (test : Bool) (fault : E) (found : Result A E) (value : A) → (if test then found else Err fault) ≡ Ok value
+    → (test ≡ true) × (found ≡ Ok value)
 when_ok true fault found value is = (refl, is)
 when_ok false fault found value is = absurd cc
 

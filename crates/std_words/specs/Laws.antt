@@ -12,4 +12,5 @@ WhatIsFoundGoesOn = (found : List ℕ) (next : List ℕ → Result (List ℕ) �
 
 -- three steps are the same however they are put in groups
 abbrev pub StepsGroup : Type 0
-StepsGroup = (one : Result (List ℕ) ℕ) (two three : List ℕ → Result (List ℕ) ℕ) → (one >>= two >>= three) ≡ (one >>= (λ it. two it >>= three))
+StepsGroup = (one : Result (List ℕ) ℕ) (two three : List ℕ → Result (List ℕ) ℕ)
+    → (one >>= two >>= three) ≡ (one >>= (λ it. two it >>= three))

@@ -25,7 +25,8 @@ decreases-items l = 4 * l.levels + 3
 
 -- what was read so far and what stands in the rest are all elements
 abbrev pub invariant-elements-loop-rest : goal.invariant-elements-loop-rest
-invariant-elements-loop-rest l = Goes (document_at l.levels) (array_at l.levels) l.end kept pair_of kept-more l.bytes l.rest l.pairs l.foreign
+invariant-elements-loop-rest l =
+    Goes (document_at l.levels) (array_at l.levels) l.end kept pair_of kept-more l.bytes l.rest l.pairs l.foreign
     × Before l.end l.foreign
 
 abbrev pub decreases-elements-loop-rest : goal.decreases-elements-loop-rest

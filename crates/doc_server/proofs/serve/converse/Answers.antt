@@ -6,7 +6,8 @@ pub returns-in-WriteFault-clause-talks : goal.returns-in-WriteFault-clause-talks
 returns-in-WriteFault-clause-talks g c =
     let known = c.loop-message.invariant in
     rw (c.of.ensures.why, c.of.ensures.commands)
-    (breaks _ _ _ _ _ _ _ _ _ _ _ _ _ _ _ _ known.going c.deref.ensures.value c.tail.ensures c.in-Whole.ensures c.reply_to.ensures.taken c.reply_to.ensures.left c.in-WriteFault.ensures.answers)
+    (breaks _ _ _ _ _ _ _ _ _ _ _ _ _ _ _ _ known.going c.deref.ensures.value c.tail.ensures c.in-Whole.ensures
+    c.reply_to.ensures.taken c.reply_to.ensures.left c.in-WriteFault.ensures.answers)
 
 pub loop-message-preserved-in-Whole : goal.loop-message-preserved-in-Whole
 loop-message-preserved-in-Whole g c =
@@ -18,7 +19,8 @@ loop-message-preserved-in-Whole g c =
       room = omega (arith, known.room, front.some);
       read_faults = search rules;
       write_faults = search rules;
-      going = turns _ _ _ _ _ _ _ _ _ _ _ _ _ _ _ _ known.going c.deref.ensures.value c.tail.ensures front c.reply_to.ensures.taken c.reply_to.ensures.left c.in-Sent.ensures.answers;
+      going = turns _ _ _ _ _ _ _ _ _ _ _ _ _ _ _ _ known.going c.deref.ensures.value c.tail.ensures front c.reply_to.ensures.taken
+          c.reply_to.ensures.left c.in-Sent.ensures.answers;
     }
 
 pub loop-message-preserved : goal.loop-message-preserved
@@ -38,7 +40,8 @@ pub returns-in-Err-clause-talks : goal.returns-in-Err-clause-talks
 returns-in-Err-clause-talks g c =
     let known = c.loop-message.invariant in
     rw (c.of-in-Err.ensures.why, c.of-in-Err.ensures.commands)
-    (stops _ _ _ _ _ _ _ _ _ _ _ _ known.going c.drop_front.ensures (short-at _ _ _ _ c.deref.ensures.value c.tail.ensures c.in-Short.ensures) c.in-Err.ensures.fetches)
+    (stops _ _ _ _ _ _ _ _ _ _ _ _ known.going c.drop_front.ensures
+    (short-at _ _ _ _ c.deref.ensures.value c.tail.ensures c.in-Short.ensures) c.in-Err.ensures.fetches)
 
 pub loop-message-init : goal.loop-message-init
 loop-message-init g c = record {

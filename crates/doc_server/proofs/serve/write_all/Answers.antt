@@ -10,5 +10,6 @@ loop-sent-preserved g c = record {
   moments = search rules;
   read_faults = search rules;
   write_faults = search rules;
-  written = grows-further _ _ _ _ _ _ _ c.loop-sent.invariant.within c.tail.ensures c.loop-sent.invariant.written c.in_ok-count.ensures.written;
+  written = grows-further _ _ _ _ _ _ _ c.loop-sent.invariant.within c.tail.ensures c.loop-sent.invariant.written
+      c.in_ok-count.ensures.written;
 }

@@ -71,7 +71,7 @@ fn found(space: Space, docs: List<Document>) -> Reply
     } else {
         Reply::Error {
             kind: NOT_SUPPORTED,
-            code: None,
+            foreign: None,
         }
     }
 }
@@ -128,13 +128,13 @@ pub fn answer(
 {
     let number = number_after(replies);
     let request = request_of(&message);
-    let code = code_of(&message.foreign);
+    let foreign = code_of(&message.foreign);
     match Command::read(alloc, message) {
         Ok(Command::Ping) => put(alloc, number, request, Reply::Done),
         Ok(Command::Insert { op }) => perform(alloc, store, number, request, op),
         Ok(Command::Find { op }) => perform(alloc, store, number, request, op),
         Err(CommandRefused::Refused(kind)) => {
-            put(alloc, number, request, Reply::Error { kind, code })
+            put(alloc, number, request, Reply::Error { kind, foreign })
         }
         Err(CommandRefused::NoMemory) => Err(NoMemory),
     }

@@ -15,10 +15,10 @@ fn add_code(alloc: Global, doc: &mut Document, kind: Kind) -> Result<(), NoMemor
 }
 
 /// The sentence of a kind, with the name of a type that is not supported.
-fn sentence(alloc: Global, kind: Kind, code: Option<u8>) -> Result<Text, NoMemory>
-    ensures { IfOk result (λ text. text ≡ sentence kind code) }
+fn sentence(alloc: Global, kind: Kind, foreign: Option<u8>) -> Result<Text, NoMemory>
+    ensures { IfOk result (λ text. text ≡ sentence kind foreign) }
 {
-    let Some(code) = code else {
+    let Some(code) = foreign else {
         return Text::of(alloc, text_of(kind));
     };
     let name = type_name_of(code as u32);
@@ -34,12 +34,12 @@ fn sentence(alloc: Global, kind: Kind, code: Option<u8>) -> Result<Text, NoMemor
     Text::from_string(alloc, text)
 }
 
-/// `{ok: 0, errmsg: .., code: .., codeName: ..}`: what a refused message is answered. `code` is the type byte of its first element of
+/// `{ok: 0, errmsg: .., code: .., codeName: ..}`: what a refused message is answered. `foreign` is the type byte of its first element of
 /// an unsupported type; it is looked at where that is the kind of the refusal.
-pub fn error(alloc: Global, kind: Kind, code: Option<u8>) -> Result<Document, NoMemory>
-    ensures { IfOk result (λ doc. doc ≡ document_of (reply.Error kind code)) }
+pub fn error(alloc: Global, kind: Kind, foreign: Option<u8>) -> Result<Document, NoMemory>
+    ensures { IfOk result (λ doc. doc ≡ document_of (reply.Error kind foreign)) }
 {
-    let sentence = sentence(alloc, kind, code)?;
+    let sentence = sentence(alloc, kind, foreign)?;
     let mut doc = Document::new(alloc);
     add(alloc, &mut doc, "ok", Value::Int(0))?;
     add(alloc, &mut doc, "errmsg", Value::Str(sentence))?;

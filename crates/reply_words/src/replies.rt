@@ -14,8 +14,8 @@ use std::alloc::Global;
 pub enum Reply {
     /// It was done, and there is nothing more to tell.
     Done,
-    /// It was refused. `code` is the type byte of its first element of an unsupported type.
-    Error { kind: Kind, code: Option<u8> },
+    /// It was refused. `foreign` is the type byte of its first element of an unsupported type.
+    Error { kind: Kind, foreign: Option<u8> },
     /// Its one document was inserted.
     Inserted,
     /// Its one document was not.
@@ -31,7 +31,7 @@ impl Reply {
     {
         match self {
             Reply::Done => done(alloc),
-            Reply::Error { kind, code } => error(alloc, kind, code),
+            Reply::Error { kind, foreign } => error(alloc, kind, foreign),
             Reply::Inserted => inserted(alloc),
             Reply::NotInserted { kind } => not_inserted(alloc, kind),
             Reply::Batch { space, docs } => batch(alloc, &space, docs),

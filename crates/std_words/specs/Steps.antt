@@ -1,5 +1,5 @@
--- Steps that may find a fault, one after another, and what a call answers that takes them.
-use Rattle.std.specs.Prelude.{◌≡◌, Option, None, Some, Result, Ok, Err}
+-- Steps that may find a fault, one after another.
+use Rattle.std.specs.Prelude.{Option, None, Some, Result, Ok, Err}
 
 -- a step that may find a fault, and the next one on what it found
 infixl 10 ◌>>=◌
@@ -11,8 +11,3 @@ abbrev pub ◌>>=◌ : {A B E : Type 0} → Result A E → (A → Result B E) �
 abbrev pub fault_of : {A E : Type 0} → Result A E → Option E
 fault_of (Ok found) = None
 fault_of (Err fault) = Some fault
-
--- the fault that is told is the one that was found; None tells want of memory, which has no cause
-abbrev pub IsToldOf : {A E : Type 0} → Result A E → Option E → Type 0
-IsToldOf found None = Unit {0}
-IsToldOf found (Some fault) = found ≡ Err fault

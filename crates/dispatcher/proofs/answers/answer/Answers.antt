@@ -35,4 +35,4 @@ returns-in-Err-Refused-clause-ok c =
     let number = passed c.number_after-number.result c.number_after-number.ensures.fits ∙ c.number_after-number.ensures.value in
     let request = passed c.request_of-request.result c.request_of-request.ensures.fits ∙ c.request_of-request.ensures.value in
     if-ok _ _ _ c.put-in-Err-Refused.ensures
-    (λ bytes is. answered-refusal _ _ _ _ number request _ _ bytes _ _ c.code_of-code.ensures refl refused is)
+    (λ bytes is. answered-refusal _ _ _ _ number request _ _ bytes _ _ c.code_of-foreign.ensures refl refused is)

@@ -1,3 +1,4 @@
 pub mod Lookups
+pub mod Moved
 pub mod Named
 pub mod Twice

@@ -47,8 +47,11 @@ abbrev pub field_or : {A : Type 0} → A → (Value-F Value → A) → List (Pai
 field_or none make fields name = made_or none make (first_of name fields)
 
 -- the documents of the sequence of that name
+abbrev pub documents_among : List Sequence → List ℕ → Option (List (List (Pair Value)))
+documents_among sequences name = option_map (λ (it : Sequence). it.docs) (find (λ (it : Sequence). bytes_eq it.name name) sequences)
+
 abbrev pub sequence_of : Message → List ℕ → Option (List (List (Pair Value)))
-sequence_of m name = option_map (λ (it : Sequence). it.docs) (find (λ (it : Sequence). bytes_eq it.name name) m.sequences)
+sequence_of m name = documents_among m.sequences name
 
 -- documents: those of the field of that name, where it is given, else those of the sequence
 abbrev pub documents_of : Message → List ℕ → List (List (Pair Value))

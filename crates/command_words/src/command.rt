@@ -1,19 +1,20 @@
-ghost use Rattle.std.specs.Prelude.{◌≡◌, [], map, slice_get, IfOk, OnOk, IfErr};
+ghost use Rattle.std.specs.Prelude.{◌≡◌, ◌<◌, [], map, length, slice_get, IfSome, IfOk, OnOk, IfErr};
+ghost use Rattle.std.specs.List.{position};
+ghost use Rattle.std.specs.Str.{bytes_eq};
 ghost use Rattle.std.specs.Option.{unwrap_or};
 ghost use Rattle.command_words.specs.declared.word.Word.TheVariants as word;
 ghost use Rattle.bson_values.specs.declared.value.Value.TheViews.{out-Value};
-ghost use Rattle.command_words.specs.Body.{pairs_of, documents_in, documents_of};
+ghost use Rattle.command_words.specs.Body.{pairs_of, documents_in, documents_among, documents_of};
 ghost use Rattle.command_words.specs.Meaning.{meaning, space_of, command_of, AreNamed};
 ghost use Rattle.command_words.specs.Refusal.{refusal, Tells};
 
 use crate::body::{coll_of, db_of};
-use crate::documents::sequence_of;
 use crate::refusal::asked;
 use crate::refused::CommandRefused;
 use crate::word::Word;
-use bson_values::{Document, NoMemory, Space, Text, Value};
+use bson_values::{Document, List, NoMemory, Space, Text, Value};
 use doc_model::Op;
-use op_msg::Message;
+use op_msg::{Message, Sequence};
 use std::alloc::Global;
 
 /// What a message asks for.
@@ -35,7 +36,7 @@ impl Command {
         ensures named { IfOk result AreNamed }
     {
         match asked(alloc, &message) {
-            Ok(word) => Ok(meant(alloc, word, &message)?),
+            Ok(word) => Ok(meant(alloc, word, message)?),
             Err(why) => Err(why),
         }
     }
@@ -50,51 +51,83 @@ fn space_of(alloc: Global, message: &Message) -> Result<Space, NoMemory>
     Ok(Space { db, coll })
 }
 
-/// The first of the items, where it is a document.
-fn first_item(alloc: Global, items: &[Value]) -> Result<Document, NoMemory>
-    ensures { IfOk result (λ it. it ≡ unwrap_or (slice_get (map (λ item. pairs_of (out-Value item)) items.now) 0) []) }
-{
-    match items {
-        [Value::Doc(document), ..] => document.copy(alloc),
-        _ => Ok(Document::new(alloc)),
-    }
-}
-
-fn first_within(alloc: Global, value: &Value) -> Result<Document, NoMemory>
-    ensures { IfOk result (λ it. it ≡ unwrap_or (slice_get (documents_in (out-Value value.now)) 0) []) }
+/// The document that the value is, moved out of it.
+fn document_in(alloc: Global, value: Value) -> Document
+    ensures { result ≡ pairs_of (out-Value value) }
 {
     match value {
-        Value::Arr(items) => first_item(alloc, items.as_slice()),
-        _ => Ok(Document::new(alloc)),
+        Value::Doc(document) => document,
+        _ => Document::new(alloc),
     }
 }
 
-fn first_document(alloc: Global, documents: &[Document]) -> Result<Document, NoMemory>
-    ensures { IfOk result (λ it. it ≡ unwrap_or (slice_get documents.now 0) []) }
+/// The first of the items, where it is a document.
+fn first_item(alloc: Global, items: List<Value>) -> Document
+    ensures { result ≡ unwrap_or (slice_get (map (λ item. pairs_of (out-Value item)) items) 0) [] }
 {
-    match documents {
-        [document, ..] => document.copy(alloc),
-        [] => Ok(Document::new(alloc)),
+    match items.into_vec().into_iter().next() {
+        Some(item) => document_in(alloc, item),
+        None => Document::new(alloc),
     }
 }
 
-/// The first of the documents of that name; it shares what the message has.
-fn first_of(alloc: Global, message: &Message, name: &str) -> Result<Document, NoMemory>
-    ensures { IfOk result (λ it. it ≡ unwrap_or (slice_get (documents_of message.now name.now) 0) []) }
+fn first_within(alloc: Global, value: Value) -> Document
+    ensures { result ≡ unwrap_or (slice_get (documents_in (out-Value value)) 0) [] }
 {
-    match message.body.get(name) {
-        Some(value) => first_within(alloc, value),
-        None => match sequence_of(message, name) {
-            Some(documents) => first_document(alloc, documents.as_slice()),
-            None => Ok(Document::new(alloc)),
-        },
+    match value {
+        Value::Arr(items) => first_item(alloc, items),
+        _ => Document::new(alloc),
     }
 }
 
-fn insert(alloc: Global, message: &Message) -> Result<Command, NoMemory>
-    ensures { IfOk result (λ it. it ≡ meaning word.Insert message.now) }
+fn first_document(alloc: Global, documents: List<Document>) -> Document
+    ensures { result ≡ unwrap_or (slice_get documents 0) [] }
 {
-    let space = space_of(alloc, message)?;
+    match documents.into_vec().into_iter().next() {
+        Some(document) => document,
+        None => Document::new(alloc),
+    }
+}
+
+/// Where the sequence of that name stands.
+fn place_of(sequences: &[Sequence], name: &str) -> Option<usize>
+    ensures value { result ≡ position (λ sequence. bytes_eq sequence.name name.now) sequences.now }
+    ensures within { IfSome result (λ place. place < length sequences.now) }
+{
+    sequences
+        .iter()
+        .position(|sequence| sequence.name.as_str() == name)
+}
+
+/// The first document of the sequence of that name.
+fn first_in_sequence(alloc: Global, mut sequences: List<Sequence>, name: &str) -> Document
+    ensures { result ≡ unwrap_or (slice_get (unwrap_or (documents_among sequences name.now) []) 0) [] }
+{
+    match place_of(sequences.as_slice(), name) {
+        Some(place) => first_document(alloc, sequences.remove(place).docs),
+        None => Document::new(alloc),
+    }
+}
+
+/// The first of the documents of that name, moved out of the message.
+fn first_of(alloc: Global, message: Message, name: &str) -> Result<Document, NoMemory>
+    ensures { IfOk result (λ it. it ≡ unwrap_or (slice_get (documents_of message name.now) 0) []) }
+{
+    let Message {
+        mut body,
+        sequences,
+        ..
+    } = message;
+    match body.place(name) {
+        Some(place) => Ok(first_within(alloc, body.remove(place)?.value)),
+        None => Ok(first_in_sequence(alloc, sequences, name)),
+    }
+}
+
+fn insert(alloc: Global, message: Message) -> Result<Command, NoMemory>
+    ensures { IfOk result (λ it. it ≡ meaning word.Insert message) }
+{
+    let space = space_of(alloc, &message)?;
     let doc = first_of(alloc, message, "documents")?;
     Ok(Command::Insert {
         op: Op::Insert { space, doc },
@@ -111,12 +144,12 @@ fn find(alloc: Global, message: &Message) -> Result<Command, NoMemory>
 }
 
 /// What the message means as that command.
-fn meant(alloc: Global, by: Word, message: &Message) -> Result<Command, NoMemory>
-    ensures { IfOk result (λ it. it ≡ meaning by message.now) }
+fn meant(alloc: Global, by: Word, message: Message) -> Result<Command, NoMemory>
+    ensures { IfOk result (λ it. it ≡ meaning by message) }
 {
     match by {
         Word::Ping => Ok(Command::Ping),
         Word::Insert => insert(alloc, message),
-        Word::Find => find(alloc, message),
+        Word::Find => find(alloc, &message),
     }
 }

@@ -14,6 +14,3 @@ pub use laws::{
 };
 pub use order::{compare, rank, same};
 pub use plain::is_plain;
-
-#[cfg(test)]
-mod tests;

@@ -1,5 +1,5 @@
 /// How the values of a spelling are written.
-#[derive(Clone, Copy, Debug)]
+#[derive(Clone, Copy)]
 pub enum Form {
     /// As BSON 1.1 has them (bsonspec.org).
     Bson,

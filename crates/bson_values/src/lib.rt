@@ -27,6 +27,3 @@ pub use space::Space;
 pub use storing::{MOST_BYTES, MOST_LEVELS, Unstorable, storable};
 pub use text::Text;
 pub use value::{Binary, Document, Regex, Value};
-
-#[cfg(test)]
-mod tests;

@@ -17,6 +17,3 @@ pub use reader::{Front, read};
 pub use refused::ReadRefused;
 pub use scalars::name;
 pub use writing::{write, write_in};
-
-#[cfg(test)]
-mod tests;

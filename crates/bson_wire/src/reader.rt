@@ -16,7 +16,7 @@ use std::alloc::Global;
 use std_words::{head, tail};
 
 /// The document at the front of some bytes.
-#[derive(Debug, Drop)]
+#[derive(Drop)]
 pub struct Front {
     pub doc: Document,
     /// How many bytes it takes.
@@ -98,10 +98,7 @@ fn push(
         return Ok(());
     };
     let name = Text::of(alloc, name)?;
-    match pairs.push(Pair { name, value }) {
-        Ok(()) => Ok(()),
-        Err(_) => Err(ReadRefused::NoMemory),
-    }
+    Ok(pairs.add(Pair { name, value })?)
 }
 
 fn push_item(items: &mut List<Value>, item: Option<Value>) -> Result<(), ReadRefused>
@@ -111,10 +108,7 @@ fn push_item(items: &mut List<Value>, item: Option<Value>) -> Result<(), ReadRef
     let Some(item) = item else {
         return Ok(());
     };
-    match items.push(item) {
-        Ok(()) => Ok(()),
-        Err(_) => Err(ReadRefused::NoMemory),
-    }
+    Ok(items.add(item)?)
 }
 
 /// The elements that fill the bytes: their pairs, and the first foreign one.

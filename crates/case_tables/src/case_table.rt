@@ -4,7 +4,7 @@ ghost use Rattle.std.specs.Option.{option_copied};
 ghost use Rattle.case_tables.specs.Cases.{row_of_code, row_of_name, clash, is_distinct};
 
 /// A number and its name.
-#[derive(Clone, Copy, Debug)]
+#[derive(Clone, Copy)]
 pub struct Case {
     pub code: u32,
     pub name: &'static str,

@@ -73,7 +73,7 @@ pub const NUMBERS_SPENT: Kind = 33;
 pub const TOO_MANY_COLLECTIONS: Kind = 34;
 
 /// A kind of refusal, and the error code that is told with it.
-#[derive(Clone, Copy, Debug)]
+#[derive(Clone, Copy)]
 pub(crate) struct Coded {
     pub(crate) kind: Kind,
     pub(crate) code: u32,

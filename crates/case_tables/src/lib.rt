@@ -20,6 +20,3 @@ pub use kinds::{
 pub use laws::{a_distinct_table_gives_back_each_row, kinds_are_as_listed};
 pub use refusals::{code_name_of, code_of, tables_are_distinct, text_of, type_name_of};
 pub use tables::{CODES, TYPES};
-
-#[cfg(test)]
-mod tests;

@@ -21,7 +21,7 @@ first_of_sequence found = unwrap_or (slice_get (unwrap_or (option_map (λ (it : 
 -- the first document of that name in a message, where that value is the field's
 abbrev pub first_of_field : Message → List ℕ → Option Value → List (Pair Value)
 first_of_field m name found =
-    unwrap_or (slice_get (unwrap_or (option_or (option_map (λ it. documents_in (out-Value it)) found) (sequence_of m name)) []) 0) []
+    unwrap_or (slice_get (unwrap_or (option_or (option_map (λ it. documents_in (out-Value it)) found) (sequence_of m.sequences name)) []) 0) []
 
 abbrev at_place : {A : Type 0} → List A → Option ℕ → Option A
 at_place items None = None

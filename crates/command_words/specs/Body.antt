@@ -47,15 +47,12 @@ abbrev pub field_or : {A : Type 0} → A → (Value-F Value → A) → List (Pai
 field_or none make fields name = made_or none make (first_of name fields)
 
 -- the documents of the sequence of that name
-abbrev pub documents_among : List Sequence → List ℕ → Option (List (List (Pair Value)))
-documents_among sequences name = option_map (λ (it : Sequence). it.docs) (find (λ (it : Sequence). bytes_eq it.name name) sequences)
-
-abbrev pub sequence_of : Message → List ℕ → Option (List (List (Pair Value)))
-sequence_of m name = documents_among m.sequences name
+abbrev pub sequence_of : List Sequence → List ℕ → Option (List (List (Pair Value)))
+sequence_of sequences name = option_map (λ (it : Sequence). it.docs) (find (λ (it : Sequence). bytes_eq it.name name) sequences)
 
 -- documents: those of the field of that name, where it is given, else those of the sequence
 abbrev pub documents_of : Message → List ℕ → List (List (Pair Value))
-documents_of m name = unwrap_or (option_or (option_map (λ it. documents_in (out-Value it)) (first_of name m.body)) (sequence_of m name)) []
+documents_of m name = unwrap_or (option_or (option_map (λ it. documents_in (out-Value it)) (first_of name m.body)) (sequence_of m.sequences name)) []
 
 -- the names of the body's fields, then those of the sequences
 abbrev pub names_of : Message → List (List ℕ)

@@ -65,7 +65,7 @@ sequences_in word sequences = first_of_all (λ (it : Sequence). sequence_refusal
 
 -- the message lacks that field, which it has to have
 abbrev pub is_absent : Message → Field → Bool
-is_absent m it = it.required && is_none (first_of it.name m.body) && is_none (sequence_of m it.name)
+is_absent m it = it.required && is_none (first_of it.name m.body) && is_none (sequence_of m.sequences it.name)
 
 -- a field behind the command's name, or a sequence, is none of the command's
 abbrev pub has_unknown : Word → Message → Bool

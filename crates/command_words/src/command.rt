@@ -4,7 +4,7 @@ ghost use Rattle.std.specs.Str.{bytes_eq};
 ghost use Rattle.std.specs.Option.{unwrap_or};
 ghost use Rattle.command_words.specs.declared.word.Word.TheVariants as word;
 ghost use Rattle.bson_values.specs.declared.value.Value.TheViews.{out-Value};
-ghost use Rattle.command_words.specs.Body.{pairs_of, documents_in, documents_among, documents_of};
+ghost use Rattle.command_words.specs.Body.{pairs_of, documents_in, sequence_of, documents_of};
 ghost use Rattle.command_words.specs.Meaning.{meaning, space_of, command_of, AreNamed};
 ghost use Rattle.command_words.specs.Refusal.{refusal, Tells};
 
@@ -18,7 +18,7 @@ use op_msg::{Message, Sequence};
 use std::alloc::Global;
 
 /// What a message asks for.
-#[derive(Debug, Drop)]
+#[derive(Drop)]
 pub enum Command {
     Ping,
     Insert { op: Op },
@@ -101,7 +101,7 @@ fn place_of(sequences: &[Sequence], name: &str) -> Option<usize>
 
 /// The first document of the sequence of that name.
 fn first_in_sequence(alloc: Global, mut sequences: List<Sequence>, name: &str) -> Document
-    ensures { result ≡ unwrap_or (slice_get (unwrap_or (documents_among sequences name.now) []) 0) [] }
+    ensures { result ≡ unwrap_or (slice_get (unwrap_or (sequence_of sequences name.now) []) 0) [] }
 {
     match place_of(sequences.as_slice(), name) {
         Some(place) => first_document(alloc, sequences.remove(place).docs),
@@ -110,7 +110,7 @@ fn first_in_sequence(alloc: Global, mut sequences: List<Sequence>, name: &str) -
 }
 
 /// The first of the documents of that name, moved out of the message.
-fn first_of(alloc: Global, message: Message, name: &str) -> Result<Document, NoMemory>
+fn document_named(alloc: Global, message: Message, name: &str) -> Result<Document, NoMemory>
     ensures { IfOk result (λ it. it ≡ unwrap_or (slice_get (documents_of message name.now) 0) []) }
 {
     let Message {
@@ -128,7 +128,7 @@ fn insert(alloc: Global, message: Message) -> Result<Command, NoMemory>
     ensures { IfOk result (λ it. it ≡ meaning word.Insert message) }
 {
     let space = space_of(alloc, &message)?;
-    let doc = first_of(alloc, message, "documents")?;
+    let doc = document_named(alloc, message, "documents")?;
     Ok(Command::Insert {
         op: Op::Insert { space, doc },
     })

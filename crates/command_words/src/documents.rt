@@ -9,7 +9,7 @@ use op_msg::Message;
 
 /// The documents of the sequence of that name.
 pub(crate) fn sequence_of<'a>(message: &'a Message, name: &str) -> Option<&'a List<Document>>
-    ensures { option_copied result ≡ sequence_of message.now name.now }
+    ensures { option_copied result ≡ sequence_of message.now.sequences name.now }
 {
     message
         .sequences
@@ -74,7 +74,7 @@ fn array_may(value: &Value) -> bool
 }
 
 fn sequence_may(message: &Message, name: &str) -> bool
-    ensures { result ≡ may_be_inserted (unwrap_or (sequence_of message.now name.now) []) }
+    ensures { result ≡ may_be_inserted (unwrap_or (sequence_of message.now.sequences name.now) []) }
 {
     match sequence_of(message, name) {
         Some(documents) => documents_may(documents.as_slice()),

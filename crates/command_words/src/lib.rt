@@ -16,6 +16,3 @@ mod word;
 
 pub use command::Command;
 pub use refused::CommandRefused;
-
-#[cfg(test)]
-mod tests;

@@ -1,5 +1,5 @@
 /// What a field takes.
-#[derive(Clone, Copy, Debug)]
+#[derive(Clone, Copy)]
 pub(crate) enum Takes {
     Anything,
     Text,

@@ -1,5 +1,5 @@
 /// The commands, as the first name of a body tells them.
-#[derive(Clone, Copy, Debug)]
+#[derive(Clone, Copy)]
 pub(crate) enum Word {
     Ping,
     Insert,

@@ -1,7 +1,7 @@
 use bson_values::{Document, List, Space};
 
 /// The documents of one space.
-#[derive(Debug, Drop)]
+#[derive(Drop)]
 pub struct Collection {
     pub space: Space,
     /// In the order of their insertion.

@@ -2,7 +2,7 @@ use bson_values::{Document, List, Space};
 use case_tables::Kind;
 
 /// What is asked of the store. It carries all that its meaning depends on, beside the store, the asker and the moment.
-#[derive(Debug, Drop)]
+#[derive(Drop)]
 pub enum Op {
     /// To add a document to a collection, which is created where it is absent.
     Insert { space: Space, doc: Document },
@@ -11,7 +11,7 @@ pub enum Op {
 }
 
 /// What the store replies.
-#[derive(Debug, Drop)]
+#[derive(Drop)]
 pub enum OpReply {
     Inserted,
     /// The documents that were asked for, in the order of their insertion.

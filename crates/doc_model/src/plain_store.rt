@@ -22,7 +22,7 @@ const LAST_NUMBER: u64 = 0x7fff_ffff_ffff_ffff;
 
 /// Whole documents in memory: the one-thread document store as a plain program. An insert goes over the documents of its
 /// collection, and each operation over the collections.
-#[derive(Debug, Drop)]
+#[derive(Drop)]
 pub struct PlainStore {
     collections: Vec<Collection>,
     next: u64,
@@ -66,7 +66,7 @@ fn add(collection: &mut Collection, next: u64, doc: Document) -> OpReply
     if next > LAST_NUMBER {
         return OpReply::Refused(NUMBERS_SPENT);
     }
-    match collection.docs.push(doc) {
+    match collection.docs.add(doc) {
         Ok(()) => OpReply::Inserted,
         Err(_) => OpReply::NoMemory,
     }
@@ -79,9 +79,7 @@ fn copies(alloc: Global, docs: &[Document]) -> Result<List<Document>, NoMemory>
     let mut copied = List::new(alloc);
     for doc in docs {
         let again = doc.copy(alloc)?;
-        if copied.push(again).is_err() {
-            return Err(NoMemory);
-        }
+        copied.add(again)?;
     }
     Ok(copied)
 }
@@ -157,7 +155,7 @@ impl PlainStore {
             return OpReply::Refused(NUMBERS_SPENT);
         }
         let mut docs = List::new(alloc);
-        if docs.push(doc).is_err() {
+        if docs.add(doc).is_err() {
             return OpReply::NoMemory;
         }
         match self.collections.push(Collection { space, docs }) {

@@ -10,6 +10,3 @@ pub use laws::a_console_that_cannot_fail_has_no_fault;
 pub use program::{Finished, ferret};
 pub use serve::{Ended, serve_link};
 pub use why::Why;
-
-#[cfg(test)]
-mod tests;

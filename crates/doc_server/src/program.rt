@@ -11,7 +11,7 @@ use outside::World;
 use std::alloc::Global;
 
 /// What is left when the program ends.
-#[derive(Debug, Drop)]
+#[derive(Drop)]
 pub struct Finished<C> {
     /// 0: the input ended behind a whole message; 1: bad words; 4: a write failed; 6: the input
     /// ended within a message; 7: a bad message; 8: a read failed; 9: want of memory; 10: the input

@@ -14,7 +14,7 @@ use std::alloc::Global;
 use std_words::{head, tail};
 
 /// A connection that was served to its end.
-#[derive(Debug, Drop)]
+#[derive(Drop)]
 pub struct Ended<L> {
     /// The number of the worker that served it.
     pub seat: u64,

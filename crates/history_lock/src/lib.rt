@@ -11,8 +11,6 @@ mod rule;
 mod seat;
 mod solo;
 mod steps;
-#[cfg(test)]
-mod tests;
 mod view;
 
 pub use closed::{Closed, Past};

@@ -15,6 +15,3 @@ pub use laws::{
 pub use message::{BadKind, Message, Sequence, Taken};
 pub use reply::{head, put_reply};
 pub use taking::take;
-
-#[cfg(test)]
-mod tests;

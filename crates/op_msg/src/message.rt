@@ -2,7 +2,7 @@ use bson_values::{Document, List, Text};
 use bson_wire::Foreign;
 
 /// A document sequence: what a section of kind 1 holds.
-#[derive(Debug, Drop)]
+#[derive(Drop)]
 pub struct Sequence {
     /// The identifier, which names the field of the command that the documents stand for.
     pub name: Text,
@@ -10,7 +10,7 @@ pub struct Sequence {
 }
 
 /// A request: OP_MSG with one body and any number of document sequences.
-#[derive(Debug, Drop)]
+#[derive(Drop)]
 pub struct Message {
     /// The `requestID`, which the reply answers to.
     pub request: i32,
@@ -43,7 +43,7 @@ pub enum BadKind {
 }
 
 /// What stands at the front of the bytes of a stream.
-#[derive(Debug, Drop)]
+#[derive(Drop)]
 pub enum Taken {
     /// A message, and how many bytes it takes.
     Whole { message: Message, used: u64 },

@@ -2,7 +2,7 @@ use crate::message::BadKind;
 use bson_values::NoMemory;
 
 /// Why no message was read.
-#[derive(Debug, Drop)]
+#[derive(Drop)]
 pub(crate) enum Refused {
     /// The kind of the fault, and its place.
     Bad(BadKind, u64),

@@ -89,7 +89,7 @@ fn documents(
             Ok(found) => found,
             Err(refused) => return Err(refused),
         };
-        if let Err(_) = docs.push(doc) {
+        if docs.add(doc).is_err() {
             return Err(Refused::NoMemory);
         }
         foreign = foreign.or(own);
@@ -161,7 +161,7 @@ fn sequences(
             Ok(found) => found,
             Err(refused) => return Err(refused),
         };
-        if let Err(_) = sequences.push(it) {
+        if sequences.add(it).is_err() {
             return Err(Refused::NoMemory);
         }
         foreign = foreign.or(own);

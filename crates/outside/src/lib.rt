@@ -13,6 +13,3 @@ pub use memory_link::MemoryLink;
 pub use memory_world::{MemoryWorld, SureWorld};
 pub use sure_link::SureLink;
 pub use world::World;
-
-#[cfg(test)]
-mod tests;

@@ -12,7 +12,7 @@ use std::marker::Model;
 /// A link in memory, whose reads are cut and whose calls fail as it was told.
 ///
 /// A number of calls stands still at the end of a u64. The moments are told until theirs does.
-#[derive(Debug, Drop)]
+#[derive(Drop)]
 pub struct MemoryLink {
     source: Source,
     written: Bytes,

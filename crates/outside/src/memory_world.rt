@@ -8,7 +8,7 @@ use crate::world::World;
 use std::marker::Model;
 
 /// A world in memory, whose console is a link that was made before. Contracts see it, until it is given.
-#[derive(Debug, Drop)]
+#[derive(Drop)]
 pub struct MemoryWorld<L: Link> {
     console: Option<L>,
 }

@@ -6,7 +6,7 @@ use bson_values::{Bytes, List};
 use std::marker::Model;
 
 /// What a link in memory gives: its input, cut into reads, and the moments of its clock.
-#[derive(Debug, Drop)]
+#[derive(Drop)]
 pub struct Source {
     input: Bytes,
     place: usize,

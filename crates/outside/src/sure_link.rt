@@ -12,7 +12,7 @@ use std::marker::Model;
 /// A link in memory, whose reads are cut as it was told and whose calls never fail.
 ///
 /// A number of calls stands still at the end of a u64. The moments are told until theirs does.
-#[derive(Debug, Drop)]
+#[derive(Drop)]
 pub struct SureLink {
     source: Source,
     written: Option<Bytes>,

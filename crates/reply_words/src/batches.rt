@@ -38,9 +38,7 @@ fn values(alloc: Global, docs: List<Document>) -> Result<List<Value>, NoMemory>
 {
     let mut values = List::new(alloc);
     for doc in docs.into_vec() {
-        if values.push(Value::Doc(doc)).is_err() {
-            return Err(NoMemory);
-        }
+        values.add(Value::Doc(doc))?;
     }
     Ok(values)
 }

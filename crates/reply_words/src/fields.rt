@@ -37,8 +37,6 @@ pub(crate) fn alone(alloc: Global, item: Value) -> Result<List<Value>, NoMemory>
     ensures { IfOk result (λ items. items ≡ item ∷ []) }
 {
     let mut items = List::new(alloc);
-    match items.push(item) {
-        Ok(()) => Ok(items),
-        Err(_) => Err(NoMemory),
-    }
+    items.add(item)?;
+    Ok(items)
 }

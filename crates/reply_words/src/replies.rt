@@ -10,7 +10,7 @@ use case_tables::Kind;
 use std::alloc::Global;
 
 /// What a message is answered.
-#[derive(Debug, Drop)]
+#[derive(Drop)]
 pub enum Reply {
     /// It was done, and there is nothing more to tell.
     Done,

@@ -1,3 +1,0 @@
-mod passing;
-mod places;
-mod whole;

@@ -1,7 +1,0 @@
-mod faults;
-mod foreign;
-mod replies;
-mod samples;
-mod seen;
-mod sequences;
-mod whole;

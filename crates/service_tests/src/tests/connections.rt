@@ -1,0 +1,4 @@
+//! Connections, byte for byte.
+
+mod commands;
+mod streams;

@@ -1,0 +1,9 @@
+mod keys;
+mod lists;
+mod measured;
+mod orders;
+mod pieces;
+mod samples;
+mod shared;
+mod stored;
+mod tables;

@@ -1,0 +1,5 @@
+//! Documents as bytes, both ways.
+
+mod passing;
+mod places;
+mod whole;

@@ -89,7 +89,7 @@ fn documents(
             Ok(found) => found,
             Err(refused) => return Err(refused),
         };
-        if docs.add(doc).is_err() {
+        if let Err(_) = docs.add(doc) {
             return Err(Refused::NoMemory);
         }
         foreign = foreign.or(own);
@@ -161,7 +161,7 @@ fn sequences(
             Ok(found) => found,
             Err(refused) => return Err(refused),
         };
-        if sequences.add(it).is_err() {
+        if let Err(_) = sequences.add(it) {
             return Err(Refused::NoMemory);
         }
         foreign = foreign.or(own);

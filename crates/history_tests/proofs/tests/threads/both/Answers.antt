@@ -1,6 +1,6 @@
 use Rattle.history_lock.proofs.Crossing.{shared}
-use Rattle.history_lock.proofs.tests.counter.Counter.TheSendSync as counter
-use Rattle.history_lock.proofs.tests.threads.both.Goals as goal
+use Rattle.history_tests.proofs.tests.counter.Counter.TheSendSync as counter
+use Rattle.history_tests.proofs.tests.threads.both.Goals as goal
 
 pub join-requires-send-F : goal.join-requires-send-F
 join-requires-send-F g c κs within = search (shared, counter.the_send) depth 12

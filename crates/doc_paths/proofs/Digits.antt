@@ -1,0 +1,35 @@
+-- Places of elements, as parts of a path tell them.
+use Rattle.std.proofs.Common.{◌≡◌, ◌<◌, ◌≤◌, ◌^◌, ℕ, true, false, List, [], ◌∷◌, length, slice_get, None, ap, sym, ◌∙◌, arith}
+use Rattle.std.specs.declared.result.Result.TheVariants.{Ok, Err}
+use Rattle.std.specs.Str.{all_ascii_digits}
+use Rattle.std.specs.Str.Parse.{digits_value, ParsesUnsigned}
+use Rattle.std.proofs.lemmas.Str.Parse.{IsNumeralModel, numerals_by_value, tells_all_ascii_digits, parse_digits}
+use Rattle.std.proofs.lemmas.Option.{slice_get_past}
+use Rattle.bson_values.specs.declared.value.Value.{Value}
+use Rattle.doc_paths.specs.Reach.{is_index, item_at}
+
+own : IsNumeralModel (λ ds. all_ascii_digits ds ≡ true) (digits_value 10)
+own = numerals_by_value _ tells_all_ascii_digits
+
+index_is : (part : List ℕ) → is_index part ≡ true → (all_ascii_digits part ≡ true) × (0 < length part)
+index_is [] is = absurd cc
+index_is (digit ∷ more) is = (grind arith, omega arith)
+
+here : (part : List ℕ) (items : List Value) → is_index part ≡ true → item_at part items ≡ slice_get items (digits_value 10 part)
+here part items is = rw is
+
+pub place_read : (E : Type 0) (part : List ℕ) (items : List Value) (place : ℕ) → is_index part ≡ true → ParsesUnsigned {E = E} 64 10 part (Ok place) → slice_get items place ≡ item_at part items
+place_read E part items place is read =
+    let known = index_is part is in
+    let same = parse_digits own {E = E} 64 part (Ok place) read known.0 in
+    ap (λ (n : ℕ). slice_get items n) same.1 ∙ sym (here part items is)
+
+pub place_past : (E : Type 0) (part : List ℕ) (items : List Value) (error : E) → is_index part ≡ true → ParsesUnsigned {E = E} 64 10 part (Err error) → length items < 2 ^ 64 → None ≡ item_at part items
+place_past E part items error is read few =
+    let known = index_is part is in
+    let not = parse_digits own {E = E} 64 part (Err error) read known.0 in
+    let past : length items ≤ digits_value 10 part = grind (arith, not) in
+    sym (here part items is ∙ slice_get_past items (digits_value 10 part) past)
+
+pub no_place : (part : List ℕ) (items : List Value) → is_index part ≡ false → None ≡ item_at part items
+no_place part items is = rw is

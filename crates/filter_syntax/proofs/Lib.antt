@@ -1,0 +1,4 @@
+pub mod Lookups
+pub mod Types
+pub mod Loops
+pub mod Levels

@@ -1,0 +1,8 @@
+//! Query: whether a filter holds of a document.
+#![tactic(auto)]
+
+mod asking;
+mod candidates;
+mod matching;
+
+pub use matching::matches;

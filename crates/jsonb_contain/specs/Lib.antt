@@ -1,0 +1,4 @@
+pub mod formers
+pub mod Rising
+pub mod Texts
+pub mod Containment

@@ -1,0 +1,12 @@
+pub mod Puts
+pub mod Distinct
+pub mod Back
+pub mod Shows
+pub mod Equations
+pub mod Layers
+pub mod LeafAgain
+pub mod Again
+pub mod LeafBack
+pub mod RowBack
+pub mod Rows
+pub mod Left

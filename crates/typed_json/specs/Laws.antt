@@ -1,0 +1,28 @@
+-- What rows are relied on for.
+use Rattle.std.specs.Prelude.{ℕ, ◌≡◌, true, List, Some, Ok}
+use Rattle.bson_values.specs.declared.pairs.Pair.{Pair}
+use Rattle.bson_values.specs.declared.value.Value.{Value}
+use Rattle.bson_values.specs.Names.{first_of}
+use Rattle.bson_values.specs.Storable.{storable}
+use Rattle.jsonb_contain.specs.declared.value.Json.{Json, out-Json}
+use Rattle.jsonb_contain.specs.declared.value.Json.TheOpen.{Json-F}
+use Rattle.jsonb_contain.specs.Rising.{value_at}
+use Rattle.typed_json.specs.Plain.{plain_of}
+use Rattle.typed_json.specs.Row.{row_of}
+use Rattle.typed_json.specs.Typed.{has_types}
+
+-- a document that may be stored, whose parts are of their types, and of which this is the row
+pub record IsRowOf (row : Json) (doc : List (Pair Value)) : Type 0 where
+  pub typed : has_types doc ≡ true
+  pub stored : storable doc ≡ Ok tt
+  pub row_is : row_of doc ≡ row
+
+-- no two documents have one row
+abbrev pub OneDocument : Type 0
+OneDocument = (row : Json) (doc other : List (Pair Value)) → IsRowOf row doc → IsRowOf row other → doc ≡ other
+
+-- an object that has the plain JSON of each field of a document under its name, for the first field of that name
+pub record HasFields (row : Json) (doc : List (Pair Value)) : Type 0 where
+  pub fields : List (Pair Json)
+  pub is : out-Json row ≡ Json-F.Object fields
+  pub at : (name : List ℕ) (it : Value) → first_of name doc ≡ Some it → value_at name fields ≡ Some (plain_of it)

@@ -1,9 +1,17 @@
+mod conditions;
+mod containment;
+mod json_fields;
+mod json_texts;
 mod keys;
 mod lists;
 mod measured;
 mod orders;
+mod paths;
 mod pieces;
+mod reached;
+mod refused_rows;
 mod samples;
 mod shared;
 mod stored;
 mod tables;
+mod typed_rows;

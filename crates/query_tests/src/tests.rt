@@ -1,0 +1,4 @@
+mod matches;
+mod readings;
+mod refusals;
+mod samples;

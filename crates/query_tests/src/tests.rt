@@ -1,4 +1,5 @@
 mod matches;
+mod pushed;
 mod readings;
 mod refusals;
 mod samples;

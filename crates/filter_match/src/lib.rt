@@ -4,5 +4,6 @@
 mod asking;
 mod candidates;
 mod matching;
+mod tails;
 
 pub use matching::matches;

@@ -1,18 +1,22 @@
-ghost use Rattle.std.specs.Prelude.{◌≡◌, ◌≤◌, ◌++◌, ◌||◌, [], length, not};
-ghost use Rattle.std.specs.List.{list_any, list_all, flat_map};
+ghost use Rattle.std.specs.Prelude.{◌≡◌, ◌≤◌, ◌&&◌, [], suc, length, not};
+ghost use Rattle.std.specs.List.{list_any, list_all};
 ghost use Rattle.std.specs.Option.{option_copied};
-ghost use Rattle.doc_paths.specs.Reach.{reached, behind_field, behind_item, item_at, in_element};
+ghost use Rattle.doc_paths.specs.Reach.{reached, behind_field};
 ghost use Rattle.filter_syntax.specs.Meaning.{holds, met_by};
 ghost use Rattle.filter_match.specs.Asking.{meets_all, meets, asked, any_equal, all_equal, all_met};
+ghost use Rattle.filter_match.specs.Tails.{is_open, some_open, answers, answers_behind, ArePlaces, any_from, element_answers};
 ghost use Rattle.doc_paths.specs.declared.reached.Reached.TheVariants.{Found};
 ghost use Rattle.bson_values.specs.declared.value.Value.{out-Value};
+ghost use Rattle.bson_values.specs.declared.value.Value.TheVariants as value;
 
 use crate::asking::Ask;
 use crate::candidates::{
     any_passes, ask_missing, is_array_of_len, items_of, one_equals, one_passes,
 };
+use crate::tails::{
+    Marks, Places, at_place, is_any_open, places_of, whole_path, with_name, with_rests, without,
+};
 use bson_values::{Document, List, Text, Value};
-use doc_paths::item_at;
 use filter_syntax::{Filter, Test};
 
 /// Whether the filter holds of the document.
@@ -119,59 +123,127 @@ fn all_are_reached(wanted: &[Value], value: Option<&Value>, parts: &[Text]) -> b
 
 /// Whether some value that the parts reach answers.
 #[cycle(walk)]
+#[tactic(auto, using(crate::proofs::Following::whole_is))]
 fn any_reached(value: Option<&Value>, parts: &[Text], ask: Ask<'_>) -> bool
     requires { length parts.now ≤ 100 }
     ensures { result ≡ list_any (asked ask.entry) (behind_field (reached parts.now) (option_copied value.entry)) }
 {
-    match value {
-        None => ask_missing(ask),
-        Some(value) => match parts.split_first() {
-            None => ask_found(value, ask),
-            Some((part, rest)) => match value {
-                Value::Doc(document) => any_reached(document.get(part.as_str()), rest, ask),
-                Value::Arr(items) => any_within(items, part.as_str(), rest, ask),
-                _ => ask_missing(ask),
-            },
-        },
-    }
+    any_behind(value, parts, &whole_path(), ask)
 }
 
-/// The element whose place the part tells, and then the elements that are documents.
+/// Whether some value that an open tail reaches, from a value or from a missing one, answers.
 #[cycle(walk)]
-#[tactic(auto, using(crate::proofs::Equations::list_any_joined))]
-fn any_within(items: &List<Value>, part: &str, rest: &[Text], ask: Ask<'_>) -> bool
-    requires { length rest.now ≤ 99 }
-    ensures { result ≡ list_any (asked ask.entry) (behind_item (reached rest.now) (item_at part.now items.now)
-        ++ flat_map (λ item. in_element part.now (reached rest.now) (out-Value item)) items.now) }
-{
-    any_at(item_at(items, part), rest, ask) || any_in_documents(items.as_slice(), part, rest, ask)
-}
-
-#[cycle(walk)]
-fn any_at(item: Option<&Value>, rest: &[Text], ask: Ask<'_>) -> bool
-    requires { length rest.now ≤ 99 }
-    ensures { result ≡ list_any (asked ask.entry) (behind_item (reached rest.now) (option_copied item.entry)) }
-{
-    match item {
-        None => false,
-        Some(item) => any_reached(Some(item), rest, ask),
-    }
-}
-
-#[cycle(walk)]
-fn any_in_documents(items: &[Value], part: &str, rest: &[Text], ask: Ask<'_>) -> bool
-    requires { length rest.now ≤ 99 }
+#[tactic(auto, using(crate::proofs::Following::missing_asked, crate::proofs::Following::found_behind))]
+fn any_behind(value: Option<&Value>, parts: &[Text], marks: &Marks, ask: Ask<'_>) -> bool
+    requires { length parts.now ≤ 100 }
     ensures { result
-        ≡ list_any (λ item. list_any (asked ask.entry) (in_element part.now (reached rest.now) (out-Value item))) items.now }
+        ≡ some_open marks.now (suc (length parts.now)) (answers_behind ask.entry parts.now (option_copied value.entry)) }
 {
-    for item in items {
-        if let Value::Doc(document) = item {
-            if any_reached(document.get(part), rest, ask) {
+    match value {
+        None => is_any_open(marks, parts.len() + 1) && ask_missing(ask),
+        Some(value) => any_from_value(value, parts, marks, ask),
+    }
+}
+
+#[cycle(walk)]
+#[tactic(auto, using(crate::proofs::Following::itself_or_beyond))]
+fn any_from_value(value: &Value, parts: &[Text], marks: &Marks, ask: Ask<'_>) -> bool
+    requires { length parts.now ≤ 100 }
+    ensures { result ≡ some_open marks.now (suc (length parts.now)) (answers ask.entry parts.now value.now) }
+{
+    is_asked(value, parts.len(), marks, ask) || any_beyond(value, parts, marks, ask)
+}
+
+#[cycle(walk)]
+fn is_asked(value: &Value, ended: usize, marks: &Marks, ask: Ask<'_>) -> bool
+    requires { ended ≤ 100 }
+    ensures { result ≡ (is_open marks.now ended && asked ask.entry (Found value.now)) }
+{
+    marks[ended] && ask_found(value, ask)
+}
+
+/// Whether some value beyond this one answers: what the open tails reach that have parts left.
+#[cycle(walk)]
+#[tactic(auto, using(crate::proofs::Following::none_open))]
+fn any_beyond(value: &Value, parts: &[Text], marks: &Marks, ask: Ask<'_>) -> bool
+    requires { length parts.now ≤ 100 }
+    ensures { result ≡ some_open marks.now (length parts.now) (answers ask.entry parts.now value.now) }
+{
+    if !is_any_open(marks, parts.len()) {
+        return false;
+    }
+    match value {
+        Value::Doc(document) => any_in_fields(document, parts, marks, ask),
+        Value::Arr(items) => any_in_items(items, parts, marks, ask),
+        _ => ask_missing(ask),
+    }
+}
+
+/// Each field once, with all open tails that begin with its name.
+#[cycle(walk)]
+#[tactic(auto, using(crate::proofs::Following::none_left, crate::proofs::Following::no_parts))]
+fn any_in_fields(document: &Document, parts: &[Text], marks: &Marks, ask: Ask<'_>) -> bool
+    requires { length parts.now ≤ 100 }
+    ensures { result ≡ some_open marks.now (length parts.now) (answers ask.entry parts.now (value.Doc document.now)) }
+{
+    let Some((_, rest)) = parts.split_first() else {
+        return false;
+    };
+    let mut left = *marks;
+    for (place, part) in parts.iter().enumerate() {
+        if left[place] {
+            let name = part.as_str();
+            let named = with_name(&left, parts, place, name);
+            if any_behind(document.get(name), rest, &named, ask) {
                 return true;
             }
+            left = without(&left, &named);
         }
     }
     false
+}
+
+/// Each element once, with all open tails whose part tells its place and, where it is a document, all open ones.
+#[cycle(walk)]
+fn any_in_items(items: &List<Value>, parts: &[Text], marks: &Marks, ask: Ask<'_>) -> bool
+    requires { length parts.now ≤ 100 }
+    ensures { result ≡ any_from (element_answers ask.entry parts.now marks.now) 0 items.now }
+{
+    let _len = items.len();
+    let places = places_of(marks, parts);
+    for (place, item) in items.as_slice().iter().enumerate() {
+        if any_in_item(item, place, &places, parts, marks, ask) {
+            return true;
+        }
+    }
+    false
+}
+
+#[cycle(walk)]
+#[tactic(auto, using(crate::proofs::Following::no_part))]
+fn any_in_item(
+    item: &Value,
+    place: usize,
+    places: &Places,
+    parts: &[Text],
+    marks: &Marks,
+    ask: Ask<'_>,
+) -> bool
+    requires few { length parts.now ≤ 100 }
+    requires told { ArePlaces places.now marks.now parts.now }
+    ensures { result ≡ element_answers ask.entry parts.now marks.now place item.now }
+{
+    let Some((_, rest)) = parts.split_first() else {
+        return false;
+    };
+    let here = at_place(marks, places, place);
+    match item {
+        Value::Doc(document) => {
+            let all = with_rests(marks, &here);
+            is_asked(item, rest.len(), &here, ask) || any_in_fields(document, parts, &all, ask)
+        }
+        _ => any_from_value(item, rest, &here, ask),
+    }
 }
 
 /// Whether a reached value answers.

@@ -20,7 +20,7 @@ macro_rules! row {
     };
 }
 
-static ROWS: [Row; 51] = [
+static ROWS: [Row; 52] = [
     // What an equality takes: a value, or an element of an array, of any number type.
     row!({"a": 1}, holds [{"a": 1}, {"a": (long 1)}, {"a": [1, 2]}], fails [{"a": [[1]]}, {"a": (str "1")}, {}]),
     row!({"a": null}, holds [{}, {"a": null}, {"a": [null]}], fails [{"a": 0}, {"a": []}]),
@@ -30,6 +30,12 @@ static ROWS: [Row; 51] = [
     row!({"a.0": 1}, holds [{"a": [1]}, {"a": {"0": 1}}], fails [{"a": 1}, {"a": [0, 1]}]),
     row!({"a.b": 1}, holds [{"a": {"b": 1}}, {"a": [{"b": 2}, {"b": [1]}]}], fails [{"a": [[{"b": 1}]]}, {"a": 1}]),
     row!({"a.1.b": 1}, holds [{"a": [0, {"b": 1}]}, {"a": [{"1": {"b": 1}}]}], fails [{"a": [{"b": 1}, 0]}, {"a": {"b": 1}}]),
+    // A value that a path reaches in 6435 ways, as each array is passed by its place or by its documents, is asked once.
+    row!({"a.0.0.0.0.0.0.0.0.0.0.0.0.0.0.0.0.0.0.0.0.0.0": 1},
+        holds [{"a": [{"0": [{"0": [{"0": [{"0": [{"0": [{"0": [{"0": [{"0":
+            [{"0": [{"0": [{"0": [{"0": [{"0": [{"0": [{"0": 1}]}]}]}]}]}]}]}]}]}]}]}]}]}]}]}],
+        fails [{"a": [{"0": [{"0": [{"0": [{"0": [{"0": [{"0": [{"0": [{"0":
+            [{"0": [{"0": [{"0": [{"0": [{"0": [{"0": [{"0": 2}]}]}]}]}]}]}]}]}]}]}]}]}]}]}]}]),
     // Negations.
     row!({"a": {"$ne": 1}}, holds [{}, {"a": 2}, {"a": [[1]]}], fails [{"a": 1}, {"a": [2, 1]}]),
     row!({"a": {"$ne": null}}, holds [{"a": 1}, {"a": [[null]]}], fails [{}, {"a": [1, null]}]),

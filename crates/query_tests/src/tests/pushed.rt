@@ -126,9 +126,13 @@ fn told(alloc: Global, filter: &Filter) -> Result<String, NoMemory> {
     Ok(out)
 }
 
+fn conditions() -> &'static [(Sample, u64, &'static str)] {
+    &CONDITIONS
+}
+
 #[test]
 fn filters_push_their_conditions(rt: HostRuntime) -> Result<(), Fail> {
-    for (place, (sample, many, wanted)) in CONDITIONS.iter().enumerate() {
+    for (place, (sample, many, wanted)) in conditions().iter().enumerate() {
         let filter = read(rt.alloc(), sample)?;
         let told = told(rt.alloc(), &filter)?;
         assert!(rt;
@@ -190,9 +194,13 @@ fn counts(alloc: Global, row: &Row) -> Result<(usize, usize), FilterRefused> {
     Ok((all, none))
 }
 
+fn rows() -> &'static [Row] {
+    &ROWS
+}
+
 #[test]
 fn rows_meet_conditions_where_the_table_says(rt: HostRuntime) -> Result<(), Fail> {
-    for (place, row) in ROWS.iter().enumerate() {
+    for (place, row) in rows().iter().enumerate() {
         let (all, none) = counts(rt.alloc(), row)?;
         assert!(rt;
             all == row.met.len() && none == 0,

@@ -1,5 +1,0 @@
-mod matches;
-mod pushed;
-mod readings;
-mod refusals;
-mod samples;

@@ -10,7 +10,7 @@ use Rattle.command_words.specs.declared.word.Word.TheVariants.{Ping, Insert, Fin
 use Rattle.command_words.specs.Tables.{shape_of}
 use Rattle.command_words.specs.Refusal.{Tells, db_of, coll_of}
 use Rattle.command_words.specs.Meaning.{AreNamed, meaning, space_of}
-use Rattle.command_words.specs.Namespace.{is_database_name, is_collection_name}
+use Rattle.naming.specs.Names.{is_database_name, is_collection_name}
 use Rattle.command_words.specs.Told.{Asks}
 
 pub are_named : (word : Word) (m : Message)

@@ -10,6 +10,7 @@ use Rattle.bson_values.specs.declared.value.Value.TheOpen.{Value-F}
 use Rattle.bson_values.specs.Names.{first_of, names}
 use Rattle.bson_values.specs.Allowed.{can_be_stored}
 use Rattle.bson_values.specs.Storable.{stands}
+use Rattle.naming.specs.Ids.{can_be_id}
 use Rattle.op_msg.specs.declared.message.Message.{Message}
 use Rattle.op_msg.specs.declared.message.Sequence.{Sequence}
 
@@ -62,12 +63,6 @@ names_of m = names m.body ++ map (λ (it : Sequence). it.name) m.sequences
 abbrev pub has_twice : List (List ℕ) → Bool
 has_twice [] = false
 has_twice (name ∷ more) = stands more name || has_twice more
-
--- neither an array nor a regex: MongoDB manual, "The _id Field"
-abbrev pub can_be_id : Value-F Value → Bool
-can_be_id (Value-F.Arr items) = false
-can_be_id (Value-F.Regex regex) = false
-can_be_id _ = true
 
 -- one document, its `_id` first, and such as may be stored
 abbrev pub may_be_inserted : List (List (Pair Value)) → Bool

@@ -1,4 +1,3 @@
-pub mod Namespace
 pub mod Body
 pub mod Tables
 pub mod Refusal

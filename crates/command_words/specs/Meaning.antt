@@ -10,7 +10,7 @@ use Rattle.command_words.specs.declared.command.Command.TheVariants as command
 use Rattle.command_words.specs.declared.word.Word.{Word}
 use Rattle.command_words.specs.declared.word.Word.TheVariants.{Ping, Insert, Find}
 use Rattle.command_words.specs.Body.{documents_of}
-use Rattle.command_words.specs.Namespace.{is_database_name, is_collection_name}
+use Rattle.naming.specs.Names.{is_database_name, is_collection_name}
 use Rattle.command_words.specs.Refusal.{word_in, db_of, coll_of}
 
 -- the collection that stands beside the command's name, in the message's database

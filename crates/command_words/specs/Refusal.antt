@@ -20,7 +20,7 @@ use Rattle.command_words.specs.declared.takes.Takes.{Takes}
 use Rattle.command_words.specs.declared.takes.Takes.TheVariants.{Text, Document, Documents, Unknown}
 use Rattle.command_words.specs.Body.{own_in, is_document, text_of, pairs_of, made_or, field_or, sequence_of, documents_of}
 use Rattle.command_words.specs.Body.{names_of, has_twice, may_be_inserted}
-use Rattle.command_words.specs.Namespace.{is_database_name, is_collection_name}
+use Rattle.naming.specs.Names.{is_database_name, is_collection_name}
 use Rattle.command_words.specs.Tables.{Field, commands, shape_of, may}
 
 -- the value has the type that is taken

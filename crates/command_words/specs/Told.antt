@@ -6,7 +6,7 @@ use Rattle.command_words.specs.declared.refused.CommandRefused.TheVariants.{Refu
 use Rattle.command_words.specs.declared.word.Word.{Word}
 use Rattle.command_words.specs.declared.tables.Row.{Row}
 use Rattle.command_words.specs.declared.tables.Table.{Table}
-use Rattle.command_words.specs.Namespace.{is_database_name, is_collection_name}
+use Rattle.naming.specs.Names.{is_database_name, is_collection_name}
 use Rattle.command_words.specs.Refusal.{MayWant, refusal, word_in, db_of, coll_of}
 use Rattle.command_words.specs.Tables.{Field, Shape, shape_of}
 

@@ -2,9 +2,10 @@ ghost use Rattle.std.specs.Prelude.{◌≡◌, ◌∷◌, [], map};
 ghost use Rattle.std.specs.Option.{option_copied, unwrap_or};
 ghost use Rattle.bson_values.specs.declared.value.Value.TheViews.{out-Value};
 ghost use Rattle.command_words.specs.Body.{pairs_of, documents_in, sequence_of, documents_of};
-ghost use Rattle.command_words.specs.Body.{can_be_id, may_be_inserted};
+ghost use Rattle.command_words.specs.Body.{may_be_inserted};
 
 use bson_values::{Document, List, Value, storable};
+use naming::can_be_id;
 use op_msg::Message;
 
 /// The documents of the sequence of that name.
@@ -17,12 +18,6 @@ pub(crate) fn sequence_of<'a>(message: &'a Message, name: &str) -> Option<&'a Li
         .iter()
         .find(|sequence| sequence.name.as_str() == name)
         .map(|sequence| &sequence.docs)
-}
-
-fn can_be_id(value: &Value) -> bool
-    ensures { result ≡ can_be_id (out-Value value.now) }
-{
-    !matches!(value, Value::Arr(_) | Value::Regex(_))
 }
 
 #[tactic(auto, using(bson_values::proofs::Soundness::storable_where))]

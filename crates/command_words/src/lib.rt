@@ -6,7 +6,6 @@ mod command;
 mod documents;
 mod fields;
 mod names;
-mod namespace;
 mod refusal;
 mod refused;
 mod tables;

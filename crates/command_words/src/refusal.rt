@@ -1,7 +1,7 @@
 ghost use Rattle.std.specs.Prelude.{◌≡◌, [], true, IfNone, nat_lt, length, codes};
 ghost use Rattle.command_words.specs.Body.{field_or, pairs_of};
 ghost use Rattle.std_words.specs.Reasons.{first};
-ghost use Rattle.command_words.specs.Namespace.{is_collection_name};
+ghost use Rattle.naming.specs.Names.{is_collection_name};
 ghost use Rattle.command_words.specs.Refusal.{db_of, coll_of, rule_refusal, field_reasons};
 ghost use Rattle.command_words.specs.Told.{Asks};
 
@@ -9,7 +9,6 @@ use crate::body::{behind, coll_of, db_of, word_in};
 use crate::documents::may_be_inserted;
 use crate::fields::{self, has_unknown, lacks, own_refusal, sequences_refusal};
 use crate::names::has_twice;
-use crate::namespace::{is_collection_name, is_database_name};
 use crate::refused::CommandRefused;
 use crate::tables::is_free;
 use crate::values::pairs_of;
@@ -19,6 +18,7 @@ use case_tables::{
     FIELD_GIVEN_TWICE, FIELD_MISSING, INVALID_NAMESPACE, Kind, NO_SUCH_COMMAND, NOT_SUPPORTED,
     UNSUPPORTED_TYPE, WRONG_TYPE,
 };
+use naming::{is_collection_name, is_database_name};
 use op_msg::Message;
 use std::alloc::Global;
 

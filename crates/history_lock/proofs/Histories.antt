@@ -28,16 +28,22 @@ module _ {S C R : Type 0} (allows : S → C → R → ℕ → ℕ → Type 0) (n
   legal-front s n [] fs l = tt
   legal-front s n (e ∷ es) fs l = (l.0, l.1, legal-front (next s e.call e.reply) e.after es fs l.2)
 
+  -- and so is what comes behind it, from where it leads
+  pub legal-back : (s : S) (n : ℕ) (es fs : List (Entry C R)) → legal allows next s n (es ++ fs)
+      → legal allows next (replay next s es) (count_after n es) fs
+  legal-back s n [] fs l = l
+  legal-back s n (e ∷ es) fs l = legal-back (next s e.call e.reply) e.after es fs l.2
+
   -- one call more
   pub legal-more : (s : S) (n : ℕ) (es : List (Entry C R)) (e : Entry C R) → legal allows next s n es
       → e.before ≡ count_after n es → allows (replay next s es) e.call e.reply e.before e.after → legal allows next s n (es ++ e ∷ [])
   legal-more s n es e l before may =
       legal-append s n es (e ∷ []) l (before, subst (λ k. allows (replay next s es) e.call e.reply k e.after) before may, tt)
 
-module _ {S C R : Type 0} (accepts : C → Bool) (allows : S → C → R → ℕ → ℕ → Type 0) (next : S → C → R → S) where
+module _ {S C R : Type 0} (accepts : C → Type 0) (allows : S → C → R → ℕ → ℕ → Type 0) (next : S → C → R → S) where
   -- where a reply is allowed to a call that may be made alone, each call of a legal history might be made
-  pub legal-accepted : ((s : S) (call : C) (reply : R) (before after : ℕ) → allows s call reply before after → accepts call ≡ true)
-      → (s : S) (n : ℕ) (es : List (Entry C R)) → legal allows next s n es → Each (λ e. accepts e.call ≡ true) es
+  pub legal-accepted : ((s : S) (call : C) (reply : R) (before after : ℕ) → allows s call reply before after → accepts call)
+      → (s : S) (n : ℕ) (es : List (Entry C R)) → legal allows next s n es → Each (λ e. accepts e.call) es
   legal-accepted only s n [] l = tt
   legal-accepted only s n (e ∷ es) l =
       (only s e.call e.reply n e.after l.1, legal-accepted only (next s e.call e.reply) e.after es l.2)

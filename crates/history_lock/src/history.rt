@@ -102,7 +102,7 @@ impl<O: Object> History<O> {
     ) -> O::Reply
         requires history { seat.old.history ≡ self.now }
         requires turn { (seat.old.held ≡ true) × (turn.old ≡ turn_of seat.old) }
-        requires accepted { O.accepts call ≡ true }
+        requires accepted { O.accepts call }
         ensures turn { turn.new ≡ turn.old }
         ensures seat { seat.new ≡ moved seat.old true seat.new.at }
         ensures logged { LoggedNext seat.old.at seat.new.at who call result }
@@ -125,7 +125,7 @@ impl<O: Object> History<O> {
     pub fn call(&self, rt: &impl Wait, seat: &mut Seat<O>, who: Who, call: O::Call) -> O::Reply
         requires history { seat.old.history ≡ self.now }
         requires free { seat.old.held ≡ false }
-        requires accepted { O.accepts call ≡ true }
+        requires accepted { O.accepts call }
         ensures seat { seat.new ≡ moved seat.old false seat.new.at }
         ensures logged { Logged seat.old.at seat.new.at who call result }
         ensures legal { legal O.allows O.next self.now.opening self.now.first seat.new.at.seen }

@@ -41,7 +41,7 @@ impl<O: Object> Solo<O> {
     }
 
     pub fn call(&mut self, who: Who, call: O::Call) -> O::Reply
-        requires { O.accepts call ≡ true }
+        requires { O.accepts call }
         ensures solo { self.new ≡ record self.old { at = self.new.at } }
         ensures logged { LoggedNext self.old.at self.new.at who call result }
         ensures legal { legal O.allows O.next self.new.history.opening self.new.history.first self.new.at.seen }

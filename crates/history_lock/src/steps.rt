@@ -111,7 +111,7 @@ pub(crate) fn make_call<O: Object>(
     requires table { (place.old.table_id ≡ top.now.table_id) × IsLock top.now.table_id }
     requires sits { Sits (meaning O.state O.faults O.allows O.next) (origin_of O.state O.faults start.now.value) place.old.me }
     requires turn { is_turn place.old.me.0.stage ≡ true }
-    requires accepted { O.accepts call ≡ true }
+    requires accepted { O.accepts call }
     ensures same { (place.new.table_id ≡ place.old.table_id) × (place.new.id ≡ place.old.id) }
     ensures called { Called (meaning O.state O.faults O.allows O.next) (origin_of O.state O.faults start.now.value)
         place.old.me place.new.me who call result }

@@ -21,7 +21,7 @@ impl Object for Counter {
 
     ghost faults = { λ _. 0 };
 
-    ghost accepts = { λ _. true };
+    ghost accepts = { λ _. ⊤ };
 
     ghost allows = { λ s _ r before after. (r ≡ (s + 1) % 2 ^ 64) × (after ≡ before) };
 

@@ -1,0 +1,5 @@
+pub mod Found
+pub mod Kept
+pub mod Ran
+pub mod Edits
+pub mod Drops

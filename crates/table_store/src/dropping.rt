@@ -1,0 +1,84 @@
+ghost use Rattle.std.specs.Prelude.{◌≡◌, ◌++◌, IfOk, length};
+ghost use Rattle.outside.specs.Changes.{all_changed};
+ghost use Rattle.table_store.specs.Found.{all_shown, state_of};
+ghost use Rattle.table_store.specs.Drops.{drops_of};
+ghost use Rattle.table_store.specs.Kept.{Tells};
+ghost use Rattle.table_store.specs.Ran.{IsReady, Ran};
+ghost use Rattle.table_words.specs.Tables.{count_in, outside_of};
+ghost use Rattle.table_words.specs.declared.call.TableCall.TheVariants as call;
+
+use crate::finding::{number_of, place_of};
+use crate::live::{Live, LiveTables, refusal_of};
+use bson_values::{List, NoMemory, Space, Text};
+use outside::{Change, Keeper};
+use std::alloc::Global;
+use table_words::TableReply;
+
+/// The changes that drop the tables of a database.
+fn drops_of(alloc: Global, db: &Text, live: &[Live]) -> Result<List<Change>, NoMemory>
+    ensures { IfOk result (λ changes. changes ≡ drops_of db.now (all_shown live.now)) }
+{
+    let mut changes = List::new(alloc);
+    let mut rest = live;
+    while let [kept, others @ ..] = rest {
+        if db.as_str() == kept.space.db.as_str() {
+            changes.add(Change::Drop {
+                number: kept.table.number(),
+            })?;
+        }
+        rest = others;
+    }
+    Ok(changes)
+}
+
+/// Leaves the tables of other databases.
+fn leave_outside(live: &mut Vec<Live>, db: &Text)
+    ensures { all_shown live.new.items ≡ outside_of db.now (all_shown live.old.items) }
+{
+    live.retain(|kept| db.as_str() != kept.space.db.as_str());
+}
+
+impl<K: Keeper> LiveTables<K> {
+    /// Drops the space's table.
+    pub(crate) fn drop_space(&mut self, space: Space) -> TableReply
+        requires ready { IsReady (K.told self.old.keeper) (state_of self.old) }
+        ensures ran { Ran (K.faults self.old.keeper) (K.faults self.new.keeper) (state_of self.old) (state_of self.new) (call.Drop space) result }
+        ensures told { Tells (K.told self.new.keeper) (state_of self.new) }
+    {
+        let Some(number) = number_of(&space, &self.live) else {
+            return TableReply::Absent;
+        };
+        let Some(place) = place_of(number, &self.live) else {
+            unreachable!()
+        };
+        match self.keeper.apply(&[Change::Drop { number }]) {
+            Ok(()) => {
+                let _gone = self.live.remove(place);
+                TableReply::Dropped(1)
+            }
+            Err(refused) => refusal_of(refused),
+        }
+    }
+
+    /// Drops all tables of a database. Where it has none, the keeper is not asked.
+    pub(crate) fn drop_database(&mut self, db: Text) -> TableReply
+        requires ready { IsReady (K.told self.old.keeper) (state_of self.old) }
+        ensures ran { Ran (K.faults self.old.keeper) (K.faults self.new.keeper) (state_of self.old) (state_of self.new) (call.DropDatabase db) result }
+        ensures told { Tells (K.told self.new.keeper) (state_of self.new) }
+    {
+        let Ok(changes) = drops_of(self.alloc, &db, &self.live) else {
+            return TableReply::NoMemory;
+        };
+        let count = changes.len() as u64;
+        if count == 0 {
+            return TableReply::Dropped(0);
+        }
+        match self.keeper.apply(changes.as_slice()) {
+            Ok(()) => {
+                leave_outside(&mut self.live, &db);
+                TableReply::Dropped(count)
+            }
+            Err(refused) => refusal_of(refused),
+        }
+    }
+}

@@ -1,0 +1,5 @@
+pub mod Tables
+pub mod Sound
+pub mod Step
+pub mod Called
+pub mod Kept

@@ -12,6 +12,7 @@ use Rattle.jsonb_contain.specs.declared.value.Json.TheOpen.{Json-F}
 use Rattle.jsonb_contain.specs.Rising.{value_at}
 use Rattle.jsonb_contain.specs.Texts.{data_of, fits, read_json}
 use Rattle.typed_json.specs.Plain.{plain_of}
+use Rattle.typed_json.specs.Reading.{row_read}
 use Rattle.typed_json.specs.Row.{row_of}
 use Rattle.typed_json.specs.Typed.{has_types}
 
@@ -40,3 +41,7 @@ pub record IsReadAgain (it : Json) : Type 0 where
 -- the row of a document that may be stored, and whose parts are of their types, is so
 abbrev pub RowsAreReadAgain : Type 0
 RowsAreReadAgain = (doc : List (Pair Value)) → storable doc ≡ Ok tt → has_types doc ≡ true → IsReadAgain (row_of doc)
+
+-- and that row, read strictly, is the document
+abbrev pub RowsAreTheirDocuments : Type 0
+RowsAreTheirDocuments = (doc : List (Pair Value)) → storable doc ≡ Ok tt → has_types doc ≡ true → row_read (row_of doc) ≡ Some doc

@@ -2,7 +2,7 @@ ghost use Rattle.std.specs.Prelude.{◌≡◌, Ok, List as Seq};
 ghost use Rattle.bson_values.specs.declared.pairs.Pair.{Pair};
 ghost use Rattle.bson_values.specs.declared.value.Value.{Value};
 ghost use Rattle.bson_values.specs.Storable.{storable};
-ghost use Rattle.typed_json.specs.Laws.{HasFields, OneDocument, RowsAreReadAgain};
+ghost use Rattle.typed_json.specs.Laws.{HasFields, OneDocument, RowsAreReadAgain, RowsAreTheirDocuments};
 ghost use Rattle.typed_json.specs.Row.{row_of};
 
 /// No two documents that may be stored have one row.
@@ -20,4 +20,10 @@ pub fn a_row_has_each_field()
 /// The text of the row of a document that may be stored is read again as that row.
 pub fn a_row_is_read_again()
     ensures { RowsAreReadAgain }
+{}
+
+/// The row of a document that may be stored, read strictly, is that document.
+#[tactic(auto, using(crate::proofs::Again::row_again))]
+pub fn a_row_is_read_as_its_document()
+    ensures { RowsAreTheirDocuments }
 {}

@@ -1,4 +1,4 @@
-mod Again
+pub mod Again
 mod Conds
 mod Events
 mod Levels

@@ -10,3 +10,4 @@ pub mod LeafBack
 pub mod RowBack
 pub mod Rows
 pub mod Left
+pub mod Printed

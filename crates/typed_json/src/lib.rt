@@ -13,7 +13,10 @@ mod schemas;
 mod tags;
 mod writing;
 
-pub use laws::{a_row_has_each_field, a_row_tells_its_document};
+pub use laws::{
+    a_row_has_each_field, a_row_is_read_again, a_row_is_read_as_its_document,
+    a_row_tells_its_document,
+};
 pub use plain_json::plain;
 pub use reading::from_row;
 pub use refused::RowRefused;

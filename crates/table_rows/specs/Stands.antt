@@ -2,7 +2,7 @@
 use Rattle.std.specs.Prelude.{ℕ, ◌≡◌, ◌<◌, true, false, List, [], ◌++◌, ◌∷◌, length, Option, None, Some, slice_set, slice_index_or}
 use Rattle.std.specs.List.{remove}
 use Rattle.table_rows.specs.declared.row.Row.{Row}
-use Rattle.table_rows.specs.declared.row.Placed.{Placed}
+use Rattle.table_rows.specs.declared.listed.Placed.{Placed}
 use Rattle.table_rows.specs.Rows.{has_key, replaced, removed}
 
 -- there, and what replacing and removing come to; or nowhere

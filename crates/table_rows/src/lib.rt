@@ -5,6 +5,6 @@ mod listed;
 mod row;
 mod table;
 
-pub use listed::Listed;
-pub use row::{Placed, Row};
+pub use listed::{Listed, Placed};
+pub use row::Row;
 pub use table::Table;

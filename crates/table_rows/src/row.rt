@@ -14,12 +14,6 @@ pub struct Row {
     pub text: Text,
 }
 
-/// A row at its place in a table.
-#[derive(Drop)]
-pub struct Placed {
-    pub place: u64,
-    pub row: Row,
-}
 
 impl Row {
     pub fn new(alloc: Global, key: Bytes, json: Json) -> Result<Row, NoMemory>

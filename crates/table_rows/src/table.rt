@@ -1,11 +1,12 @@
 ghost use Rattle.std.specs.Prelude.{◌≡◌, ◌∷◌, ◌++◌, [], true, false, length, IfOk, IfErr, OnOk};
 ghost use Rattle.std.specs.List.{position};
 ghost use Rattle.std.specs.Str.{bytes_eq};
-ghost use Rattle.table_rows.specs.Rows.{has_key, selected, replaced, removed};
+ghost use Rattle.table_rows.specs.Rows.{above, has_key, selected, replaced, removed};
 ghost use Rattle.table_rows.specs.Stands.{Found};
 
 use bson_values::{Bytes, List, NoMemory};
-use crate::row::{Placed, Row};
+use crate::listed::Placed;
+use crate::row::Row;
 use jsonb_contain::{Cond, meets};
 use std::alloc::Global;
 use std::marker::Model;
@@ -105,6 +106,8 @@ impl Table {
 
     /// Adds a row last. Want of memory hands it back.
     pub fn insert(&mut self, place: u64, row: Row) -> Result<(), Row>
+        requires absent { has_key row.key self.old.rows ≡ false }
+        requires above { above place self.old.rows ≡ true }
         ensures ok { OnOk result (self.new ≡ record self.old { rows = self.old.rows ++ record { place = place; row = row } ∷ [] }) }
         ensures err { IfErr result (λ back. (back ≡ row) × (self.new ≡ self.old)) }
     {
@@ -120,7 +123,7 @@ impl Table {
     /// Puts the row over the one with its key, and says whether there is one.
     pub fn replace(&mut self, row: Row) -> bool
         ensures found { result ≡ has_key row.key self.old.rows }
-        ensures after { self.new ≡ record self.old { rows = replaced row self.old.rows } }
+        ensures rows { self.new ≡ record self.old { rows = replaced row self.old.rows } }
     {
         match place_of(&row.key, &self.rows) {
             Some(place) => {
@@ -134,7 +137,7 @@ impl Table {
     /// Takes the row of the key out, and says whether there is one.
     pub fn remove(&mut self, key: &Bytes) -> bool
         ensures found { result ≡ has_key key.now self.old.rows }
-        ensures after { self.new ≡ record self.old { rows = removed key.now self.old.rows } }
+        ensures rows { self.new ≡ record self.old { rows = removed key.now self.old.rows } }
     {
         match place_of(key, &self.rows) {
             Some(place) => {

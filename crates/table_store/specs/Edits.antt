@@ -4,7 +4,7 @@ use Rattle.std.specs.Str.{bytes_eq}
 use Rattle.outside.specs.declared.kept.Change.{Change}
 use Rattle.outside.specs.declared.kept.Change.TheVariants.{Put, Cut}
 use Rattle.table_rows.specs.declared.row.Row.{Row}
-use Rattle.table_rows.specs.declared.row.Placed.{Placed}
+use Rattle.table_rows.specs.declared.listed.Placed.{Placed}
 use Rattle.table_rows.specs.Rows.{has_key}
 use Rattle.table_words.specs.declared.call.Edit.{Edit}
 use Rattle.table_words.specs.declared.call.Edit.TheVariants.{Replace, Remove}

@@ -7,7 +7,7 @@ use Rattle.outside.specs.declared.kept.KeptRow.{KeptRow}
 use Rattle.outside.specs.declared.kept.KeptTable.{KeptTable}
 use Rattle.outside.specs.declared.kept.Change.{Change}
 use Rattle.outside.specs.declared.kept.Change.TheVariants.{Create, Drop, Put, Cut}
-use Rattle.table_rows.specs.declared.row.Placed.{Placed}
+use Rattle.table_rows.specs.declared.listed.Placed.{Placed}
 use Rattle.table_words.specs.Tables.{Table, Tables}
 
 -- ---- what is kept of a state

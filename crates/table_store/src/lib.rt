@@ -8,8 +8,9 @@ mod dropping;
 mod editing;
 mod finding;
 mod inserting;
+mod listing;
 mod live;
-mod naming;
+
 mod reading;
 mod tables;
 

@@ -32,6 +32,8 @@ impl<K: Keeper> Model for Tables<K> {
 
     ghost Value = { Held K };
 
+    ghost coded = { Prim.hlevel (codes, json.the_row.coded, K.code) };
+
     ghost view = { λ t. record { state = state_of t.tables; keeper = t.tables.keeper } };
 
     ghost invariant = { λ t. IsReady (K.told t.tables.keeper) (state_of t.tables) };

@@ -4,7 +4,7 @@ use Rattle.std.proofs.lemmas.Bool.{eqb-true}
 use Rattle.std.specs.Str.{bytes_eq}
 use Rattle.bson_values.specs.declared.space.Space.{Space}
 use Rattle.bson_values.specs.Names.{same_space}
-use Rattle.table_rows.specs.declared.row.Placed.{Placed}
+use Rattle.table_rows.specs.declared.listed.Placed.{Placed}
 use Rattle.table_words.specs.Tables.{Table, Tables, named, numbered, put, without, outside_of}
 use Rattle.table_words.specs.Sound.{SoundRows, IsApart, SoundTable, SoundTables}
 use Rattle.table_words.specs.Kept.{Kept}

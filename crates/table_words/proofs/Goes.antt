@@ -4,7 +4,7 @@ use Rattle.std.proofs.lemmas.Bool.{ltb-false}
 use Rattle.std.proofs.lemmas.Bool.Decides.{nat_tests}
 use Rattle.bson_values.specs.declared.space.Space.{Space}
 use Rattle.table_rows.specs.declared.row.Row.{Row}
-use Rattle.table_rows.specs.declared.row.Placed.{Placed}
+use Rattle.table_rows.specs.declared.listed.Placed.{Placed}
 use Rattle.jsonb_contain.specs.declared.cond.Cond.{Cond}
 use Rattle.history_lock.specs.declared.entry.Entry.{Entry}
 use Rattle.history_lock.specs.Legal.{legal, replay}

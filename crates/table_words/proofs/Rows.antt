@@ -4,7 +4,7 @@ use Rattle.std.proofs.lemmas.Bool.{or_parts, or_from}
 use Rattle.std.proofs.lemmas.Slice.Eq.{bytes_eq-Decides}
 use Rattle.std.specs.Str.{bytes_eq}
 use Rattle.table_rows.specs.declared.row.Row.{Row}
-use Rattle.table_rows.specs.declared.row.Placed.{Placed}
+use Rattle.table_rows.specs.declared.listed.Placed.{Placed}
 use Rattle.table_words.specs.declared.call.Edit.{Edit}
 use Rattle.table_words.specs.declared.call.Edit.TheVariants.{Replace, Remove}
 use Rattle.table_rows.specs.Rows.{has_key, replaced, removed}

@@ -10,7 +10,7 @@ use Rattle.typed_json.specs.Laws.{IsRowOf}
 use Rattle.naming.specs.Ids.{can_be_id}
 use Rattle.naming.specs.Names.{is_valid}
 use Rattle.table_rows.specs.declared.row.Row.{Row}
-use Rattle.table_rows.specs.declared.row.Placed.{Placed}
+use Rattle.table_rows.specs.declared.listed.Placed.{Placed}
 use Rattle.table_rows.specs.Rows.{has_key}
 use Rattle.table_words.specs.declared.call.Edit.{Edit}
 use Rattle.table_words.specs.declared.call.Edit.TheVariants.{Replace, Remove}

@@ -2,7 +2,7 @@
 use Rattle.std.specs.Prelude.{ℕ, ◌≡◌, ◌+◌, ◌-◌, ◌^◌, ◌==◌, ◌≤◌, zero, suc, min, Bool, true, false, ◌&&◌, if◌then◌else◌, List, [], ◌∷◌, ◌++◌, length, Option, None, Some, nat_lt, nat_le}
 use Rattle.bson_values.specs.declared.space.Space.{Space}
 use Rattle.table_rows.specs.declared.row.Row.{Row}
-use Rattle.table_rows.specs.declared.row.Placed.{Placed}
+use Rattle.table_rows.specs.declared.listed.Placed.{Placed}
 use Rattle.jsonb_contain.specs.declared.cond.Cond.{Cond}
 use Rattle.table_words.specs.declared.call.Edit.{Edit}
 use Rattle.table_words.specs.declared.call.Edit.TheVariants.{Replace, Remove}

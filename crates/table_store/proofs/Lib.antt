@@ -1,0 +1,9 @@
+pub mod Firsts
+pub mod Keeping
+pub mod Places
+pub mod Readings
+pub mod Edited
+pub mod Changing
+pub mod Calls
+pub mod Creations
+pub mod Drops

@@ -1,5 +1,5 @@
 -- What a call comes to, and what is told after it.
-use Rattle.std.proofs.Common.{◌≡◌, ℕ, ◌+◌, ◌-◌, ◌^◌, nat_lt, ◌<◌, ◌≤◌, ◌==◌, Bool, true, false, List, [], ◌∷◌, ◌++◌, length, get_or, set, Option, None, Some, Ok, Err, refl, ap, sym, ◌∙◌, subst, arith}
+use Rattle.std.proofs.Common.{◌≡◌, ℕ, zero, suc, ◌+◌, ◌-◌, ◌^◌, nat_lt, ◌<◌, ◌≤◌, ◌==◌, Bool, true, false, List, [], ◌∷◌, ◌++◌, length, get_or, set, Option, None, Some, Ok, Err, refl, ap, sym, ◌∙◌, subst, arith}
 use Rattle.std.proofs.lemmas.Bool.{or_parts}
 use Rattle.std.proofs.lemmas.Bool.Decides.{nat_tests}
 use Rattle.std.specs.Str.{bytes_eq}
@@ -29,10 +29,10 @@ use Rattle.table_words.proofs.Goes.{goes-after}
 use Rattle.table_store.specs.declared.live.Live.{Live}
 use Rattle.table_store.specs.Found.{shown, all_shown, Stands}
 use Rattle.table_store.specs.Kept.{kept_tables, Tells}
-use Rattle.table_store.specs.Edits.{changes_for}
+use Rattle.table_store.specs.Edits.{changes_for, others}
 use Rattle.table_store.specs.Ran.{Ran, IsReady, refusal_of}
 use Rattle.table_store.proofs.Changing.{kept-for}
-use Rattle.table_store.proofs.Edited.{sound-distinct, sound-above, not-out}
+use Rattle.table_store.proofs.Edited.{sound-distinct, sound-above, others-last}
 use Rattle.table_store.proofs.Keeping.{told-changed}
 use Rattle.table_store.proofs.Readings.{plain-for}
 
@@ -175,3 +175,26 @@ undone t u v key place row none is came went =
     let over : record u { rows = removed key u.rows } ≡ record t { rows = removed key (t.rows ++ p ∷ []) } = ap (λ (x : Listed). record x { rows = removed key x.rows }) came in
     let back : record t { rows = removed key (t.rows ++ p ∷ []) } ≡ t = ap (λ rows. record t { rows = rows }) (ap (λ k. removed k (t.rows ++ p ∷ [])) is ∙ put-back p t.rows none) in
     went ∙ over ∙ back
+
+-- a table that got a row last, then the edits of other keys, then its stamp
+pub done : (t u v w : Listed) (es : List Edit) (key : List ℕ) (stamp : ℕ) (row : Row) → has_key row.key t.rows ≡ false → key ≡ row.key
+    → u ≡ record t { rows = t.rows ++ record { place = stamp; row = row } ∷ [] } → v ≡ record u { rows = edited (others key es) u.rows } → w ≡ record v { stamp = stamp }
+    → w ≡ record t { stamp = stamp; rows = edited es t.rows ++ record { place = stamp; row = row } ∷ [] }
+done t u v w es key stamp row none is came went stamped =
+    let q : Placed = record { place = stamp; row = row } in
+    let over : record u { rows = edited (others key es) u.rows } ≡ record t { rows = edited (others key es) (t.rows ++ q ∷ []) } = ap (λ (x : Listed). record x { rows = edited (others key es) x.rows }) came in
+    let last : edited (others key es) (t.rows ++ q ∷ []) ≡ edited es t.rows ++ q ∷ [] = ap (λ k. edited (others k es) (t.rows ++ q ∷ [])) is ∙ others-last es t.rows q none in
+    stamped ∙ ap (λ (x : Listed). record x { stamp = stamp }) (went ∙ over ∙ ap (λ rows. record t { rows = rows }) last)
+
+same-item : (live : List Live) (i : ℕ) (old : Live) → old ≡ get_or live i old → set live i old ≡ live
+same-item [] i old is = refl
+same-item (l ∷ ls) zero old is = ap (λ x. x ∷ ls) is
+same-item (l ∷ ls) (suc i) old is = ap (λ xs. l ∷ xs) (same-item ls i old is)
+
+-- the keeper refused, and the table stayed
+pub told-same : (live : List Live) (next n i : ℕ) (old : Live) (table : Listed) (told new : Option (List KeptTable)) (changes : List Change) (refused : KeepError) → Stands n live i → old ≡ get_or live i old
+    → table ≡ old.table → Goes told new changes (Err refused) → Tells told (record { live = all_shown live; next = next })
+    → Tells new (record { live = all_shown (set live i (record { space = old.space; table = table })); next = next })
+told-same live next n i old table told new changes refused at is same goes tells =
+    let stays : set live i (record { space = old.space; table = table }) ≡ live = ap (λ (x : Listed). set live i (record { space = old.space; table = x })) same ∙ same-item live i old is in
+    subst (λ (ls : List Live). Tells new (record { live = all_shown ls; next = next })) (sym stays) (told-kept told new changes refused (record { live = all_shown live; next = next }) goes tells)

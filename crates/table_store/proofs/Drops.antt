@@ -1,5 +1,7 @@
 -- What a Drop and a DropDatabase come to.
 use Rattle.std.proofs.Common.{◌≡◌, ℕ, zero, suc, ◌+◌, ◌<◌, ◌≤◌, ◌==◌, Bool, true, false, List, [], ◌∷◌, ◌++◌, length, map, Option, None, Some, Ok, Err, refl, ap, sym, ◌∙◌, subst, arith}
+use Rattle.std.specs.Prelude.{not}
+use Rattle.std.specs.List.{filter}
 use Rattle.std.specs.Str.{bytes_eq}
 use Rattle.bson_values.specs.declared.space.Space.{Space}
 use Rattle.outside.specs.declared.kept.KeptTable.{KeptTable}
@@ -11,12 +13,12 @@ use Rattle.outside.specs.Changes.{all_changed, without_first, Goes}
 use Rattle.outside.specs.Changes as keeping
 use Rattle.table_words.specs.declared.call.TableCall.TheVariants as call
 use Rattle.table_words.specs.declared.call.TableReply.TheVariants as reply
-use Rattle.table_words.specs.Tables.{Table, Tables, named, without, outside_of, count_in}
+use Rattle.table_words.specs.Tables.{Table, Tables, named, numbered, without, outside_of, count_in}
 use Rattle.table_words.specs.Sound.{IsApart, Sound, SoundTables}
 use Rattle.table_words.specs.Step.{drops, meant, is_kept}
-use Rattle.table_words.proofs.Finds.{number-apart, number-same}
+use Rattle.table_words.proofs.Finds.{number-apart, number-same, numbered-named}
 use Rattle.table_store.specs.declared.live.Live.{Live}
-use Rattle.table_store.specs.Found.{shown, all_shown, FoundName}
+use Rattle.table_store.specs.Found.{shown, all_shown, FoundName, FoundNumber}
 use Rattle.table_store.specs.Drops.{drops_of}
 use Rattle.table_store.specs.Kept.{kept_table, kept_tables, plain_change, Tells}
 use Rattle.table_store.specs.Ran.{Ran, refusal_of}
@@ -49,7 +51,23 @@ pub drop-refused : (live : List Live) (next n : ℕ) (space : Space) (before now
 drop-refused live next n space before now refused found cause =
     refused-ran (record { live = all_shown live; next = next }) (call.Drop space) before now refused (rw found.1 refl) cause
 
+-- a table that is found by its space is found by its number
+pub found-both : (live : List Live) (next n : ℕ) (space : Space) → Sound (record { live = all_shown live; next = next }) → FoundName space live (Some n)
+    → FoundNumber n live None → ⊥
+found-both live next n space sound name number =
+    let own : numbered n (all_shown live) ≡ Some name.0 = subst (λ k. numbered k (all_shown live) ≡ Some name.0) name.2 (numbered-named next space name.0 (all_shown live) sound.tables name.1) in
+    let clash : Some name.0 ≡ None = sym own ∙ number in cc
+
 -- ---- DropDatabase
+
+pub shown-outside : (db : List ℕ) (live : List Live) → all_shown (filter (λ (kept : Live). not (bytes_eq db kept.space.db)) live) ≡ outside_of db (all_shown live)
+shown-outside db [] = refl
+shown-outside db (l ∷ ls) = cases (bytes_eq db l.space.db) refl (shown-outside db ls)
+  where
+    cases : (b : Bool) → bytes_eq db l.space.db ≡ b → all_shown (filter (λ (kept : Live). not (bytes_eq db kept.space.db)) ls) ≡ outside_of db (all_shown ls)
+        → all_shown (filter (λ (kept : Live). not (bytes_eq db kept.space.db)) (l ∷ ls)) ≡ outside_of db (all_shown (l ∷ ls))
+    cases true e rest = rw e rest
+    cases false e rest = rw e (ap (λ ts. shown l ∷ ts) rest)
 
 pub count-drops : (db : List ℕ) (ts : List Table) → length (drops_of db ts) ≡ count_in db ts
 count-drops db [] = refl
@@ -87,7 +105,9 @@ stays-first t db (u ∷ us) ks apart = cases (bytes_eq db u.space.db) refl (λ r
     cases : (b : Bool) → bytes_eq db u.space.db ≡ b
         → ((rest : List KeptTable) → all_changed (drops_of db us) (kept_table t ∷ rest) ≡ kept_table t ∷ all_changed (drops_of db us) rest)
         → all_changed (drops_of db (u ∷ us)) (kept_table t ∷ ks) ≡ kept_table t ∷ all_changed (drops_of db (u ∷ us)) ks
-    cases true e rest = rw (e, other) (rest (without_first (keeping.has_number u.number) ks))
+    cases true e rest =
+        let head : without_first (keeping.has_number u.number) (kept_table t ∷ ks) ≡ kept_table t ∷ without_first (keeping.has_number u.number) ks = rw other refl in
+        rw e (ap (all_changed (drops_of db us)) head ∙ rest (without_first (keeping.has_number u.number) ks))
     cases false e rest = rw e (rest ks)
 
 went : (next : ℕ) (db : List ℕ) (ts : List Table) → SoundTables next ts → all_changed (drops_of db ts) (kept_tables ts) ≡ kept_tables (outside_of db ts)
@@ -96,7 +116,9 @@ went next db (t ∷ ts) sound = cases (bytes_eq db t.space.db) refl (went next d
   where
     cases : (b : Bool) → bytes_eq db t.space.db ≡ b → all_changed (drops_of db ts) (kept_tables ts) ≡ kept_tables (outside_of db ts)
         → all_changed (drops_of db (t ∷ ts)) (kept_tables (t ∷ ts)) ≡ kept_tables (outside_of db (t ∷ ts))
-    cases true e rest = rw (e, number-same t.number) rest
+    cases true e rest =
+        let head : without_first (keeping.has_number t.number) (kept_tables (t ∷ ts)) ≡ kept_tables ts = rw (number-same t.number) refl in
+        rw e (ap (all_changed (drops_of db ts)) head ∙ rest)
     cases false e rest = rw e (stays-first t db ts (kept_tables ts) sound.1 ∙ ap (λ ks. kept_table t ∷ ks) rest)
 
 pub database-none : (s : Tables) (db : List ℕ) (count : ℕ) → count ≡ count_in db s.live → count ≡ 0 → (faults : ℕ) → Ran faults faults s s (call.DropDatabase db) (reply.Dropped 0)

@@ -16,10 +16,13 @@ use Rattle.table_words.specs.Step.{edited}
 use Rattle.table_words.proofs.Rows.{bytes-same, bytes-swap, key-replaced, key-removed}
 use Rattle.table_store.specs.Edits.{key_of, others}
 
+edited-append : (xs ys : List Edit) (rows : List Placed) → edited (xs ++ ys) rows ≡ edited ys (edited xs rows)
+edited-append [] ys rows = refl
+edited-append (Replace row ∷ xs) ys rows = edited-append xs ys (replaced row rows)
+edited-append (Remove key ∷ xs) ys rows = edited-append xs ys (removed key rows)
+
 pub edited-push : (es : List Edit) (e : Edit) (rows : List Placed) → edited (es ++ e ∷ []) rows ≡ edited (e ∷ []) (edited es rows)
-edited-push [] e rows = refl
-edited-push (Replace row ∷ es) e rows = edited-push es e (replaced row rows)
-edited-push (Remove key ∷ es) e rows = edited-push es e (removed key rows)
+edited-push es e rows = edited-append es (e ∷ []) rows
 
 -- no key stands twice
 abbrev pub Distinct : List Placed → Type 0
@@ -102,6 +105,19 @@ pub edited-parts : (es : List Edit) (ps : List Placed) → Distinct ps → edite
 edited-parts [] ps distinct = refl
 edited-parts (Replace row ∷ es) ps distinct = edited-parts es (replaced row ps) (distinct-replaced row ps distinct)
 edited-parts (Remove key ∷ es) ps distinct = edited-parts es (removed key ps) (distinct-removed key ps distinct) ∙ ap (all_removed es) (wait es key ps distinct)
+
+others-append : (key : List ℕ) (xs ys : List Edit) → others key (xs ++ ys) ≡ others key xs ++ others key ys
+others-append key [] ys = refl
+others-append key (x ∷ xs) ys = cases (bytes_eq key (key_of x)) refl (others-append key xs ys)
+  where
+    cases : (b : Bool) → bytes_eq key (key_of x) ≡ b → others key (xs ++ ys) ≡ others key xs ++ others key ys → others key ((x ∷ xs) ++ ys) ≡ others key (x ∷ xs) ++ others key ys
+    cases true e rest = rw e rest
+    cases false e rest = rw e (ap (λ es. x ∷ es) rest)
+
+-- one edit more, if it is of another key
+pub others-push : (key : List ℕ) (es : List Edit) (e : Edit) (rows : List Placed)
+    → edited (others key (es ++ e ∷ [])) rows ≡ edited (others key (e ∷ [])) (edited (others key es) rows)
+others-push key es e rows = ap (λ xs. edited xs rows) (others-append key es (e ∷ [])) ∙ edited-append (others key es) (others key (e ∷ [])) rows
 
 -- ---- a row that stands last already
 

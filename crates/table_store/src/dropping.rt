@@ -1,10 +1,10 @@
-ghost use Rattle.std.specs.Prelude.{◌≡◌, ◌++◌, IfOk, length};
-ghost use Rattle.outside.specs.Changes.{all_changed};
+ghost use Rattle.std.specs.Prelude.{◌≡◌, ◌<◌, IfOk, length, not};
+ghost use Rattle.std.specs.List.{filter, remove};
+ghost use Rattle.std.specs.Str.{bytes_eq};
 ghost use Rattle.table_store.specs.Found.{all_shown, state_of};
 ghost use Rattle.table_store.specs.Drops.{drops_of};
 ghost use Rattle.table_store.specs.Kept.{Tells};
 ghost use Rattle.table_store.specs.Ran.{IsReady, Ran};
-ghost use Rattle.table_words.specs.Tables.{count_in, outside_of};
 ghost use Rattle.table_words.specs.declared.call.TableCall.TheVariants as call;
 
 use crate::finding::{number_of, place_of};
@@ -31,21 +31,34 @@ fn drops_of(alloc: Global, db: &Text, live: &[Live]) -> Result<List<Change>, NoM
     Ok(changes)
 }
 
+fn is_outside(kept: &Live, db: &Text) -> bool
+    ensures { result ≡ not (bytes_eq db.now kept.now.space.db) }
+{
+    db.as_str() != kept.space.db.as_str()
+}
+
 /// Leaves the tables of other databases.
 fn leave_outside(live: &mut Vec<Live>, db: &Text)
-    ensures { all_shown live.new.items ≡ outside_of db.now (all_shown live.old.items) }
+    ensures { live.new.items ≡ filter (λ kept. not (bytes_eq db.now kept.space.db)) live.old.items }
 {
-    live.retain(|kept| db.as_str() != kept.space.db.as_str());
+    live.retain(|kept| is_outside(kept, db));
+}
+
+fn leave_out(live: &mut Vec<Live>, place: usize)
+    requires { place < length live.old.items }
+    ensures { live.new.items ≡ remove live.old.items place }
+{
+    live.remove(place);
 }
 
 impl<K: Keeper> LiveTables<K> {
     /// Drops the space's table.
-    pub(crate) fn drop_space(&mut self, space: Space) -> TableReply
+    pub(crate) fn drop_space(&mut self, space: &Space) -> TableReply
         requires ready { IsReady (K.told self.old.keeper) (state_of self.old) }
-        ensures ran { Ran (K.faults self.old.keeper) (K.faults self.new.keeper) (state_of self.old) (state_of self.new) (call.Drop space) result }
+        ensures ran { Ran (K.faults self.old.keeper) (K.faults self.new.keeper) (state_of self.old) (state_of self.new) (call.Drop space.now) result }
         ensures told { Tells (K.told self.new.keeper) (state_of self.new) }
     {
-        let Some(number) = number_of(&space, &self.live) else {
+        let Some(number) = number_of(space, &self.live) else {
             return TableReply::Absent;
         };
         let Some(place) = place_of(number, &self.live) else {
@@ -53,7 +66,7 @@ impl<K: Keeper> LiveTables<K> {
         };
         match self.keeper.apply(&[Change::Drop { number }]) {
             Ok(()) => {
-                let _gone = self.live.remove(place);
+                leave_out(&mut self.live, place);
                 TableReply::Dropped(1)
             }
             Err(refused) => refusal_of(refused),
@@ -61,12 +74,12 @@ impl<K: Keeper> LiveTables<K> {
     }
 
     /// Drops all tables of a database. Where it has none, the keeper is not asked.
-    pub(crate) fn drop_database(&mut self, db: Text) -> TableReply
+    pub(crate) fn drop_database(&mut self, db: &Text) -> TableReply
         requires ready { IsReady (K.told self.old.keeper) (state_of self.old) }
-        ensures ran { Ran (K.faults self.old.keeper) (K.faults self.new.keeper) (state_of self.old) (state_of self.new) (call.DropDatabase db) result }
+        ensures ran { Ran (K.faults self.old.keeper) (K.faults self.new.keeper) (state_of self.old) (state_of self.new) (call.DropDatabase db.now) result }
         ensures told { Tells (K.told self.new.keeper) (state_of self.new) }
     {
-        let Ok(changes) = drops_of(self.alloc, &db, &self.live) else {
+        let Ok(changes) = drops_of(self.alloc, db, &self.live) else {
             return TableReply::NoMemory;
         };
         let count = changes.len() as u64;
@@ -75,7 +88,7 @@ impl<K: Keeper> LiveTables<K> {
         }
         match self.keeper.apply(changes.as_slice()) {
             Ok(()) => {
-                leave_outside(&mut self.live, &db);
+                leave_outside(&mut self.live, db);
                 TableReply::Dropped(count)
             }
             Err(refused) => refusal_of(refused),

@@ -53,14 +53,21 @@ fn apply_edits(table: &mut Table, edits: List<Edit>)
     }
 }
 
+/// Makes one edit, if it is of another key than this.
+fn apply_other(table: &mut Table, edit: Edit, key: &Bytes)
+    ensures { table.new ≡ record table.old { rows = edited (others key.now (edit ∷ [])) table.old.rows } }
+{
+    if !is_of(&edit, key) {
+        apply_edit(table, edit);
+    }
+}
+
 /// Makes the edits of other keys than this, in order.
 fn apply_others(table: &mut Table, edits: List<Edit>, key: &Bytes)
     ensures { table.new ≡ record table.old { rows = edited (others key.now edits) table.old.rows } }
 {
     for edit in edits.into_vec() {
-        if !is_of(&edit, key) {
-            apply_edit(table, edit);
-        }
+        apply_other(table, edit, key);
     }
 }
 

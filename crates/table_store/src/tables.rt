@@ -59,8 +59,8 @@ impl<K: Keeper> LiveTables<K> {
                 added,
             } => self.commit(table, stamp, edits, added),
             TableCall::Create { space } => self.create(space),
-            TableCall::Drop { space } => self.drop_space(space),
-            TableCall::DropDatabase { db } => self.drop_database(db),
+            TableCall::Drop { space } => self.drop_space(&space),
+            TableCall::DropDatabase { db } => self.drop_database(&db),
             TableCall::ListTables { db } => self.list_tables(&db),
             TableCall::ListDatabases => self.list_databases(),
         }

@@ -66,4 +66,4 @@ has_text text (t ∷ ts) = bytes_eq text t || has_text text ts
 abbrev pub databases : List (List ℕ) → List Table → List (List ℕ)
 databases known [] = []
 databases known (u ∷ us) =
-    if has_text u.space.db known then databases known us else u.space.db ∷ databases (u.space.db ∷ known) us
+    if has_text u.space.db known then databases known us else u.space.db ∷ databases (known ++ u.space.db ∷ []) us

@@ -1,8 +1,8 @@
-ghost use Rattle.std.specs.Prelude.{◌≡◌};
+ghost use Rattle.std.specs.Prelude.{◌≡◌, length};
 ghost use Rattle.table_store.specs.Found.{state_of};
 ghost use Rattle.table_store.specs.Kept.{Tells};
 ghost use Rattle.table_store.specs.Ran.{IsReady, Ran};
-ghost use Rattle.table_words.specs.Sound.{accepted};
+ghost use Rattle.table_words.specs.Sound.{Sound, accepted};
 
 use crate::live::LiveTables;
 use history_lock::Object;
@@ -37,6 +37,35 @@ impl<K: Keeper> Model for Tables<K> {
     ghost view = { λ t. record { state = state_of t.tables; keeper = t.tables.keeper } };
 
     ghost invariant = { λ t. IsReady (K.told t.tables.keeper) (state_of t.tables) };
+}
+
+impl<K: Keeper> Tables<K> {
+    /// How many tables there are.
+    pub fn len(&self) -> usize
+        ensures len { result ≡ length self.now.state.live }
+        // What is true of all tables, told to whoever has them.
+        ensures sound { Sound self.now.state }
+        ensures tells { Tells (K.told self.now.keeper) self.now.state }
+    {
+        self.tables.live.as_slice().len()
+    }
+
+    /// The keeper as it stands.
+    pub fn keeper(self) -> K
+        ensures { result ≡ self.keeper }
+    {
+        let Tables { tables } = self;
+        tables.into_keeper()
+    }
+}
+
+impl<K> LiveTables<K> {
+    fn into_keeper(self) -> K
+        ensures { result ≡ self.keeper }
+    {
+        let LiveTables { keeper, .. } = self;
+        keeper
+    }
 }
 
 impl<K: Keeper> LiveTables<K> {

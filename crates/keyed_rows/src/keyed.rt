@@ -1,7 +1,10 @@
-ghost use Rattle.std.specs.Prelude.{◌≡◌, ◌++◌, ◌∷◌, [], true, false, length, is_some, option_map, IfOk, IfErr, OnOk, OnErr, Some};
+ghost use Rattle.std.specs.Prelude.{◌≡◌, ◌++◌, ◌∷◌, [], true, false, length, is_some, option_map, IfOk, IfErr, OnOk, IsSome, Some};
+ghost use Rattle.std.specs.BTreeMap.{get};
 ghost use Rattle.std.specs.Option.{option_copied};
+ghost use Rattle.std.specs.Ordering.{nat_cmp};
 ghost use Rattle.std.specs.Map.Iter.{ShowsInOrder, deref};
 ghost use Rattle.keyed_rows.specs.declared.entry.Entry.{Entry as Row};
+ghost use Rattle.keyed_rows.specs.Index.{Swaps};
 ghost use Rattle.keyed_rows.specs.Entries.{above, found, has_key, keys_differ, places_rise, removed, replaced};
 
 use crate::entry::Entry;
@@ -31,7 +34,18 @@ impl<V> Model for Keyed<V> {
 
     ghost view = { λ it. values it.entries };
 
-    ghost invariant = { λ it. IsKeyed it.entries it.index };
+    ghost invariant = { λ it. IsKeyed it.entries it.index (values it.entries) };
+}
+
+/// Puts a value in the place of that under a place, and gives that one.
+fn swap<V>(entries: &mut BTreeMap<u64, Entry<V>>, place: u64, value: V) -> V
+    requires { IsSome (get nat_cmp entries.old place) }
+    ensures { Swaps place result value entries.old entries.new }
+{
+    match entries.get_mut(&place) {
+        Some(entry) => mem::replace(&mut entry.value, value),
+        None => unreachable!(),
+    }
 }
 
 impl<V> Keyed<V> {
@@ -66,13 +80,13 @@ impl<V> Keyed<V> {
     pub fn has(&self, key: &Bytes) -> bool
         ensures { result ≡ has_key key.now self.now }
     {
-        place_of(&self.index, key.as_slice()).is_some()
+        place_of(&self.index, key).is_some()
     }
 
     pub fn get(&self, key: &Bytes) -> Option<&Entry<V>>
         ensures { option_copied result ≡ found key.now self.now }
     {
-        let place = place_of(&self.index, key.as_slice())?;
+        let place = place_of(&self.index, key)?;
         self.entries.get(&place)
     }
 
@@ -95,14 +109,14 @@ impl<V> Keyed<V> {
         ensures ok { OnOk result (self.new ≡ self.old ++ (record { place = place; key = key; value = value }) ∷ []) }
         ensures err { IfErr result (λ back. (back.0 ≡ key) × (back.1 ≡ value) × (self.new ≡ self.old)) }
     {
-        if add(self.alloc, &mut self.index, key.as_slice(), place).is_err() {
+        let Ok(()) = add(self.alloc, &mut self.index, &key, place) else {
             return Err((key, value));
-        }
+        };
         match self.entries.insert(place, Entry { place, key, value }) {
             Ok(_) => Ok(()),
             Err(refused) => {
                 let (_, Entry { key, value, .. }) = refused.value;
-                forget(&mut self.index, key.as_slice());
+                forget(&mut self.index, &key);
                 Err((key, value))
             }
         }
@@ -114,11 +128,8 @@ impl<V> Keyed<V> {
         ensures absent { IfErr result (λ back. (back ≡ value) × (has_key key.now self.old ≡ false)) }
         ensures entries { self.new ≡ replaced key.now value self.old }
     {
-        match place_of(&self.index, key.as_slice()) {
-            Some(place) => match self.entries.get_mut(&place) {
-                Some(entry) => Ok(mem::replace(&mut entry.value, value)),
-                None => Err(value),
-            },
+        match place_of(&self.index, key) {
+            Some(place) => Ok(swap(&mut self.entries, place, value)),
             None => Err(value),
         }
     }
@@ -128,7 +139,7 @@ impl<V> Keyed<V> {
         ensures found { result ≡ found key.now self.old }
         ensures entries { self.new ≡ removed key.now self.old }
     {
-        let place = forget(&mut self.index, key.as_slice())?;
+        let place = forget(&mut self.index, key)?;
         self.entries.remove(&place)
     }
 }

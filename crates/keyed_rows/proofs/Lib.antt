@@ -1,0 +1,5 @@
+mod Places
+mod Finds
+mod Lasts
+mod Edits
+mod Kept

@@ -87,13 +87,15 @@ module _ {V : Type 0} where
           → (if here then Some first else found other (entries ++ entry ∷ []))
           ≡ (if bytes_eq entry.key other then Some entry else (if here then Some first else found other entries))
       cases true is apart rest =
-          let differs : bytes_eq entry.key other ≡ false = subst (λ key. bytes_eq entry.key key ≡ false) (sym (same other first.key is)) apart in
+          let differs : bytes_eq entry.key other ≡ false =
+          subst (λ key. bytes_eq entry.key key ≡ false) (sym (same other first.key is)) apart in
           rw differs refl
       cases false is apart rest = rest
 
   -- ---- one less
 
-  below_removed : (place : ℕ) (key : List ℕ) (entries : List (Entry V)) → below place entries ≡ true → below place (removed key entries) ≡ true
+  below_removed : (place : ℕ) (key : List ℕ) (entries : List (Entry V)) → below place entries ≡ true
+      → below place (removed key entries) ≡ true
   below_removed place key [] less = refl
   below_removed place key (first ∷ entries) less =
       let both = and-both (nat_lt place first.place) (below place entries) less in
@@ -110,12 +112,13 @@ module _ {V : Type 0} where
       let both = and-both (below first.place entries) (places_rise entries) rise in
       cases (bytes_eq key first.key) (below_removed first.place key entries both.0) both.1 (rise_removed key entries both.1)
     where
-      cases : (here : Bool) → below first.place (removed key entries) ≡ true → places_rise entries ≡ true → places_rise (removed key entries) ≡ true
-          → places_rise (if here then entries else first ∷ removed key entries) ≡ true
+      cases : (here : Bool) → below first.place (removed key entries) ≡ true → places_rise entries ≡ true
+          → places_rise (removed key entries) ≡ true → places_rise (if here then entries else first ∷ removed key entries) ≡ true
       cases true one all rest = all
       cases false one all rest = and-made _ _ one rest
 
-  absent_removed : (other key : List ℕ) (entries : List (Entry V)) → has_key other entries ≡ false → has_key other (removed key entries) ≡ false
+  absent_removed : (other key : List ℕ) (entries : List (Entry V)) → has_key other entries ≡ false
+      → has_key other (removed key entries) ≡ false
   absent_removed other key [] absent = refl
   absent_removed other key (first ∷ entries) absent =
       let one = or-not-first (bytes_eq other first.key) (has_key other entries) absent in
@@ -150,14 +153,16 @@ module _ {V : Type 0} where
   found_removed key (first ∷ entries) differ other =
       let both = and-both (not (has_key first.key entries)) (keys_differ entries) differ in
       let gone = not_found first.key entries (not-false (has_key first.key entries) both.0) in
-      cases (bytes_eq key first.key) (bytes_eq key other) (bytes_eq other first.key) refl refl refl gone (found_removed key entries both.1 other)
+      cases (bytes_eq key first.key) (bytes_eq key other) (bytes_eq other first.key) refl refl refl gone
+      (found_removed key entries both.1 other)
     where
       cases : (here asked there : Bool) → bytes_eq key first.key ≡ here → bytes_eq key other ≡ asked → bytes_eq other first.key ≡ there
           → found first.key entries ≡ None
           → found other (removed key entries) ≡ (if asked then None else found other entries)
           → found other (if here then entries else first ∷ removed key entries)
           ≡ (if asked then None else (if there then Some first else found other entries))
-      cases true true there one two three gone rest = subst (λ bytes. found bytes entries ≡ None) (sym (same key first.key one) ∙ same key other two) gone
+      cases true true there one two three gone rest =
+          subst (λ bytes. found bytes entries ≡ None) (sym (same key first.key one) ∙ same key other two) gone
       cases true false true one two three gone rest =
           absurd (never-both (bytes_eq key other) (subst (λ bytes. bytes_eq key bytes ≡ true) (sym (same other first.key three)) one) two)
       cases true false false one two three gone rest = refl
@@ -172,14 +177,16 @@ module _ {V : Type 0} where
   removed_none key [] absent = refl
   removed_none key (first ∷ entries) absent = cases (bytes_eq key first.key) absent (removed_none key entries)
     where
-      cases : (here : Bool) → (if here then Some first else found key entries) ≡ None → (found key entries ≡ None → removed key entries ≡ entries)
+      cases : (here : Bool) → (if here then Some first else found key entries) ≡ None
+          → (found key entries ≡ None → removed key entries ≡ entries)
           → (if here then entries else first ∷ removed key entries) ≡ first ∷ entries
       cases true absent rest = absurd cc
       cases false absent rest = ap (λ others. first ∷ others) (rest absent)
 
   -- ---- another value
 
-  below_replaced : (place : ℕ) (key : List ℕ) (value : V) (entries : List (Entry V)) → below place (replaced key value entries) ≡ below place entries
+  below_replaced : (place : ℕ) (key : List ℕ) (value : V) (entries : List (Entry V))
+      → below place (replaced key value entries) ≡ below place entries
   below_replaced place key value [] = refl
   below_replaced place key value (first ∷ entries) = cases (bytes_eq key first.key) (below_replaced place key value entries)
     where
@@ -201,7 +208,8 @@ module _ {V : Type 0} where
       cases true one rest = refl
       cases false one rest = rw (one, rest) refl
 
-  pub has_replaced : (other key : List ℕ) (value : V) (entries : List (Entry V)) → has_key other (replaced key value entries) ≡ has_key other entries
+  pub has_replaced : (other key : List ℕ) (value : V) (entries : List (Entry V))
+      → has_key other (replaced key value entries) ≡ has_key other entries
   has_replaced other key value [] = refl
   has_replaced other key value (first ∷ entries) = cases (bytes_eq key first.key) (has_replaced other key value entries)
     where
@@ -211,7 +219,8 @@ module _ {V : Type 0} where
       cases true rest = refl
       cases false rest = ap (λ others. bytes_eq other first.key || others) rest
 
-  pub differ_replaced : (key : List ℕ) (value : V) (entries : List (Entry V)) → keys_differ (replaced key value entries) ≡ keys_differ entries
+  pub differ_replaced : (key : List ℕ) (value : V) (entries : List (Entry V))
+      → keys_differ (replaced key value entries) ≡ keys_differ entries
   differ_replaced key value [] = refl
   differ_replaced key value (first ∷ entries) =
       cases (bytes_eq key first.key) (has_replaced first.key key value entries) (differ_replaced key value entries)
@@ -232,14 +241,16 @@ module _ {V : Type 0} where
     where
       cases : (here there : Bool) → bytes_eq other first.key ≡ there
           → option_map place_of (found other (replaced key value entries)) ≡ option_map place_of (found other entries)
-          → option_map place_of (found other (if here then record first { value = value } ∷ entries else first ∷ replaced key value entries))
+          → option_map place_of
+          (found other (if here then record first { value = value } ∷ entries else first ∷ replaced key value entries))
           ≡ option_map place_of (if there then Some first else found other entries)
       cases true true is rest = rw is refl
       cases true false is rest = rw is refl
       cases false true is rest = rw is refl
       cases false false is rest = rw is rest
 
-  pub replaced_none : (key : List ℕ) (value : V) (entries : List (Entry V)) → found key entries ≡ None → replaced key value entries ≡ entries
+  pub replaced_none : (key : List ℕ) (value : V) (entries : List (Entry V)) → found key entries ≡ None
+      → replaced key value entries ≡ entries
   replaced_none key value [] absent = refl
   replaced_none key value (first ∷ entries) absent = cases (bytes_eq key first.key) absent (replaced_none key value entries)
     where

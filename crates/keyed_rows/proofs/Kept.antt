@@ -13,8 +13,12 @@ use Rattle.keyed_rows.proofs.Finds.{Stands, is_found, put_last, stands, values-s
 use Rattle.keyed_rows.proofs.Lasts.{above_last}
 use Rattle.keyed_rows.proofs.Edits.{place_of, not_found, same, rise_last, differ_last, found_last, rise_removed, differ_removed, found_removed, removed_none, rise_replaced, differ_replaced, place_replaced}
 
-abbrev Index : Type 0
+abbrev pub Index : Type 0
 Index = BTreeMap (Vec ℕ Global) ℕ
+
+-- entries under their places
+abbrev pub Under : Type 0 → Type 0
+Under V = BTreeMap ℕ (Entry V)
 
 -- a change of the index at one key
 abbrev pub Turns : List ℕ → Option ℕ → Index → Index → Type 0
@@ -23,18 +27,17 @@ Turns key place old new = (other : List ℕ) → place_at other new ≡ (if byte
 module _ {V : Type 0} where
   -- ---- the same entries, as what stands under the places
 
-  pub seen : (rows : BTreeMap ℕ (Entry V)) (index : Index) (entries : List (Entry V)) → IsKeyed rows index entries → values rows ≡ entries
-  seen rows index entries keyed = ap values_of keyed.under ∙ values-stored entries
+  pub seen : {rows : Under V} {index : Index} {entries : List (Entry V)} → IsKeyed rows index entries → values rows ≡ entries
+  seen {entries = entries} keyed = ap values_of keyed.under ∙ values-stored entries
 
-  pub closed : (rows : BTreeMap ℕ (Entry V)) (index : Index) (entries : List (Entry V)) → IsKeyed rows index entries
-      → IsKeyed rows index (values rows)
-  closed rows index entries keyed = subst (IsKeyed rows index) (sym (seen rows index entries keyed)) keyed
+  pub closed : {rows : Under V} {index : Index} {entries : List (Entry V)} → IsKeyed rows index entries → IsKeyed rows index (values rows)
+  closed {rows} {index} keyed = subst (IsKeyed rows index) (sym (seen keyed)) keyed
 
-  pub opened : (rows : BTreeMap ℕ (Entry V)) (index : Index) (entries : List (Entry V)) → IsKeyed rows index (values rows)
-      → values rows ≡ entries → IsKeyed rows index entries
-  opened rows index entries keyed is = subst (IsKeyed rows index) is keyed
+  pub opened : {rows : Under V} {index : Index} {entries : List (Entry V)} → IsKeyed rows index (values rows) → values rows ≡ entries
+      → IsKeyed rows index entries
+  opened {rows} {index} keyed is = subst (IsKeyed rows index) is keyed
 
-  module _ (rows : BTreeMap ℕ (Entry V)) (index : Index) (entries : List (Entry V)) (keyed : IsKeyed rows index entries) where
+  module _ {rows : Under V} {index : Index} {entries : List (Entry V)} (keyed : IsKeyed rows index entries) where
     -- ---- look-ups
 
     pub has : (key : List ℕ) → is_some (place_at key index) ≡ has_key key entries
@@ -55,7 +58,9 @@ module _ {V : Type 0} where
     leads key place is = cases (found key entries) refl
       where
         cases : (it : Option (Entry V)) → found key entries ≡ it → Leads key place
-        cases None none = let clash : ◌≡◌ {A = Option ℕ} None (Some place) = sym (keyed.indexed key ∙ ap (option_map place_of) none) ∙ is in absurd cc
+        cases None none =
+            let clash : ◌≡◌ {A = Option ℕ} None (Some place) = sym (keyed.indexed key ∙ ap (option_map place_of) none) ∙ is in
+            absurd cc
         cases (Some entry) some = record {
           entry = entry;
           at = let at : Some entry.place ≡ Some place = sym (keyed.indexed key ∙ ap (option_map place_of) some) ∙ is in cc;
@@ -76,7 +81,9 @@ module _ {V : Type 0} where
       where
         cases : (it : Option (Entry V)) → found key entries ≡ it → found key entries ≡ None
         cases None none = none
-        cases (Some entry) some = let clash : Some entry.place ≡ None = sym (keyed.indexed key ∙ ap (option_map place_of) some) ∙ is in absurd cc
+        cases (Some entry) some =
+            let clash : Some entry.place ≡ None = sym (keyed.indexed key ∙ ap (option_map place_of) some) ∙ is in
+            absurd cc
 
     -- something stands under each place of the index
     pub stands_there : (key : List ℕ) (place : ℕ) → place_at key index ≡ Some place → IsSome (get nat_cmp rows place)
@@ -92,15 +99,19 @@ module _ {V : Type 0} where
     above_by last place there is all =
         above_last last place there entries
         (ap (λ (under : List (ℕ × Entry V)). lookup (is_at (nat_cmp last)) under) (sym keyed.under) ∙ is)
-        (λ other some. all other (subst (λ (under : List (ℕ × Entry V)). IsSome (lookup (is_at (nat_cmp other)) under)) (sym keyed.under) some))
+        (λ other some.
+        all other (subst (λ (under : List (ℕ × Entry V)). IsSome (lookup (is_at (nat_cmp other)) under)) (sym keyed.under) some))
 
     -- ---- one more
 
-    pub added : (more : BTreeMap ℕ (Entry V)) (new : Index) (entry : Entry V) → has_key entry.key entries ≡ false → above entry.place entries ≡ true
-        → more.entries ≡ insert_entry nat_cmp rows.entries entry.place entry → Turns entry.key (Some entry.place) index new
+    pub added : (more : Under V) (new : Index) (entry : Entry V) → has_key entry.key entries ≡ false
+        → above entry.place entries ≡ true → more.entries ≡ insert_entry nat_cmp rows.entries entry.place entry
+        → Turns entry.key (Some entry.place) index new
         → IsKeyed more new (entries ++ entry ∷ [])
     added more new entry absent far put turns = record {
-      under = put ∙ ap (λ (under : List (ℕ × Entry V)). insert_entry nat_cmp under entry.place entry) keyed.under ∙ put_last entry entries far;
+      under = put
+          ∙ ap (λ (under : List (ℕ × Entry V)). insert_entry nat_cmp under entry.place entry) keyed.under
+          ∙ put_last entry entries far;
       rise = rise_last entry entries far keyed.rise;
       differ = differ_last entry entries absent keyed.differ;
       indexed = λ other.
@@ -116,8 +127,8 @@ module _ {V : Type 0} where
         cases false it = refl
 
     -- the index as it was, and what is told of a key that is not there forgotten again
-    pub kept : (less : BTreeMap ℕ (Entry V)) (new : Index) → less.entries ≡ rows.entries → ((other : List ℕ) → place_at other new ≡ place_at other index)
-        → IsKeyed less new entries
+    pub kept : (less : Under V) (new : Index) → less.entries ≡ rows.entries
+        → ((other : List ℕ) → place_at other new ≡ place_at other index) → IsKeyed less new entries
     kept less new put turns = record {
       under = put ∙ keyed.under;
       rise = keyed.rise;
@@ -149,12 +160,14 @@ module _ {V : Type 0} where
         ∙ cases (bytes_eq key other) (found other entries)
         ∙ ap (option_map place_of) (sym (found_removed key entries keyed.differ other))
       where
-        cases : (here : Bool) (it : Option (Entry V)) → (if here then None else option_map place_of it) ≡ option_map place_of (if here then None else it)
+        cases : (here : Bool) (it : Option (Entry V)) → (if here then None else option_map place_of it)
+            ≡ option_map place_of (if here then None else it)
         cases true it = refl
         cases false it = refl
 
-    pub taken : (less : BTreeMap ℕ (Entry V)) (new : Index) (key : List ℕ) (place : ℕ) → place_at key index ≡ Some place
-        → less.entries ≡ remove_entry (is_at (nat_cmp place)) rows.entries → Turns key None index new → IsKeyed less new (removed key entries)
+    pub taken : (less : Under V) (new : Index) (key : List ℕ) (place : ℕ) → place_at key index ≡ Some place
+        → less.entries ≡ remove_entry (is_at (nat_cmp place)) rows.entries → Turns key None index new
+        → IsKeyed less new (removed key entries)
     taken less new key place is out turns = let it = leads key place is in record {
       under = out
           ∙ ap (λ (under : List (ℕ × Entry V)). remove_entry (is_at (nat_cmp place)) under) keyed.under
@@ -165,7 +178,8 @@ module _ {V : Type 0} where
       indexed = forgotten key new turns;
     }
 
-    pub not_taken : (new : Index) (key : List ℕ) → place_at key index ≡ None → Turns key None index new → IsKeyed rows new (removed key entries)
+    pub not_taken : (new : Index) (key : List ℕ) → place_at key index ≡ None → Turns key None index new
+        → IsKeyed rows new (removed key entries)
     not_taken new key is turns = record {
       under = keyed.under ∙ ap stored (sym (removed_none key entries (missed key is)));
       rise = rise_removed key entries keyed.rise;
@@ -175,17 +189,19 @@ module _ {V : Type 0} where
 
     -- ---- another value
 
-    pub swapped : (other : BTreeMap ℕ (Entry V)) (key : List ℕ) (place : ℕ) (was value : V) → place_at key index ≡ Some place
+    pub swapped : (other : Under V) (key : List ℕ) (place : ℕ) (was value : V) → place_at key index ≡ Some place
         → Swaps place was value rows other → IsKeyed other index (replaced key value entries)
     swapped other key place was value is swaps =
         let it = leads key place is in
         let one : ◌≡◌ {A = Option (Entry V)} (Some swaps.entry) (Some it.entry) = sym swaps.there ∙ looked key place is ∙ it.is in
         let same_entry : swaps.entry ≡ it.entry = cc in
+        let put = λ (at : ℕ) (under : List (ℕ × Entry V)) (entry : Entry V).
+        set_value (is_at (nat_cmp at)) under (record entry { value = value }) in
         record {
           under = swaps.over
-              ∙ ap (λ (under : List (ℕ × Entry V)). set_value (is_at (nat_cmp place)) under (record swaps.entry { value = value })) keyed.under
-              ∙ ap (λ (at : ℕ). set_value (is_at (nat_cmp at)) (stored entries) (record swaps.entry { value = value })) (sym it.at)
-              ∙ ap (λ (entry : Entry V). set_value (is_at (nat_cmp it.entry.place)) (stored entries) (record entry { value = value })) same_entry
+              ∙ ap (λ (under : List (ℕ × Entry V)). put place under swaps.entry) keyed.under
+              ∙ ap (λ (at : ℕ). put at (stored entries) swaps.entry) (sym it.at)
+              ∙ ap (λ (entry : Entry V). put it.entry.place (stored entries) entry) same_entry
               ∙ it.here.over value;
           rise = rise_replaced key value entries ∙ keyed.rise;
           differ = differ_replaced key value entries ∙ keyed.differ;
@@ -193,7 +209,7 @@ module _ {V : Type 0} where
         }
 
     -- the value that was there
-    pub swapped_out : (other : BTreeMap ℕ (Entry V)) (key : List ℕ) (place : ℕ) (was value : V) → place_at key index ≡ Some place
+    pub swapped_out : (other : Under V) (key : List ℕ) (place : ℕ) (was value : V) → place_at key index ≡ Some place
         → Swaps place was value rows other → option_map (λ (entry : Entry V). entry.value) (found key entries) ≡ Some was
     swapped_out other key place was value is swaps =
         ap (option_map (λ (entry : Entry V). entry.value)) (sym (looked key place is) ∙ swaps.there) ∙ ap (λ it. Some it) swaps.value_is

@@ -30,7 +30,8 @@ pub updated : (bytes key : List ℕ) (old new : BTreeMap Held ℕ) (place : Opti
     → (other : List ℕ) → place_at other new ≡ (if bytes_eq key other then place else place_at other old)
 unfolding KeepsOthers
 updated bytes key old new place is updates other =
-    subst (λ (it : List ℕ). place_at other new ≡ (if bytes_eq it other then place else place_at other old)) is (cases (bytes_eq bytes other) refl)
+    subst (λ (it : List ℕ). place_at other new ≡ (if bytes_eq it other then place else place_at other old)) is
+    (cases (bytes_eq bytes other) refl)
   where
     cases : (here : Bool) → bytes_eq bytes other ≡ here → place_at other new ≡ (if here then place else place_at other old)
     cases true e = subst (λ it. place_at it new ≡ place) ((bytes_eq-Decides bytes other).0 e) updates.1

@@ -17,8 +17,8 @@ abbrev pub stored : {V : Type 0} → List (Entry V) → List (ℕ × Entry V)
 stored entries = map (λ entry. (entry.place, entry)) entries
 
 -- each entry stands under its place, places rise, keys differ, and the index tells the place of each key and of no other
-pub record IsKeyed {V : Type 0} (under_places : BTreeMap ℕ (Entry V)) (index : BTreeMap (Vec ℕ Global) ℕ) (entries : List (Entry V)) : Type 0 where
-  pub under : under_places.entries ≡ stored entries
+pub record IsKeyed {V : Type 0} (rows : BTreeMap ℕ (Entry V)) (index : BTreeMap (Vec ℕ Global) ℕ) (entries : List (Entry V)) : Type 0 where
+  pub under : rows.entries ≡ stored entries
   pub rise : places_rise entries ≡ true
   pub differ : keys_differ entries ≡ true
   pub indexed : (key : List ℕ) → place_at key index ≡ option_map (λ entry. entry.place) (found key entries)

@@ -12,5 +12,7 @@ returns g c =
       there = sym c.in-Some.ensures.value;
       value_is = sym c.replace.ensures.value;
       over = (c.get_mut.follows.holds (record was { value = c.replace.new.dest })).0
-          ∙ ap (λ (value : g.row.V.Denot). set_value (is_at (nat_cmp c.args.place)) c.args.entries.now.entries (record was { value = value })) c.replace.ensures.after;
+          ∙ ap
+          (λ (value : g.row.V.Denot). set_value (is_at (nat_cmp c.args.place)) c.args.entries.now.entries (record was { value = value }))
+          c.replace.ensures.after;
     }

@@ -4,7 +4,7 @@ use Rattle.keyed_rows.proofs.keyed.Keyed.get.Goals as goal
 
 pub returns : goal.returns
 returns g c =
-    let keyed = opened _ _ _ c.self.invariant c.self.view_is in
+    let keyed = opened c.self.invariant c.self.view_is in
     c.get.ensures.value
-    ∙ looked c.self.inside.entries c.self.inside.index c.args.self.now keyed c.args.key.now c.in_ok-place.place
+    ∙ looked keyed c.args.key.now c.in_ok-place.place
     (sym c.place_of.ensures ∙ c.in_ok-place.was)

@@ -6,4 +6,4 @@ use Rattle.keyed_rows.proofs.keyed.Keyed.has.Goals as goal
 pub returns : goal.returns
 returns g c =
     c.is_some.ensures ∙ ap is_some c.place_of.ensures
-    ∙ has c.self.inside.entries c.self.inside.index c.args.self.now (opened _ _ _ c.self.invariant c.self.view_is) c.args.key.now
+    ∙ has (opened c.self.invariant c.self.view_is) c.args.key.now

@@ -4,25 +4,25 @@ use Rattle.keyed_rows.proofs.keyed.Keyed.remove.Goals as goal
 
 pub returns-in_err-place-clause-entries : goal.returns-in_err-place-clause-entries
 returns-in_err-place-clause-entries g c =
-    let keyed = opened _ _ _ c.self.invariant c.self.view_is in
-    seen _ _ _ (not_taken c.self.inside.entries c.self.inside.index c.args.self.now keyed c.forget.new.index c.args.key.now
+    let keyed = opened c.self.invariant c.self.view_is in
+    seen (not_taken keyed c.forget.new.index c.args.key.now
     (sym c.forget.ensures.place ∙ c.in_err-place.was) c.forget.ensures.others)
 
 pub invariant_of-self-2 : goal.invariant_of-self-2
 invariant_of-self-2 g c =
-    let keyed = opened _ _ _ c.self.invariant c.self.view_is in
-    closed _ _ _ (taken c.self.inside.entries c.self.inside.index c.args.self.now keyed c.remove.new.self c.forget.new.index c.args.key.now
+    let keyed = opened c.self.invariant c.self.view_is in
+    closed (taken keyed c.remove.new.self c.forget.new.index c.args.key.now
     c.in_ok-place.place (sym c.forget.ensures.place ∙ c.in_ok-place.was) c.remove.ensures.entries c.forget.ensures.others)
 
 pub returns-clause-found : goal.returns-clause-found
 returns-clause-found g c =
-    let keyed = opened _ _ _ c.self.invariant c.self.view_is in
+    let keyed = opened c.self.invariant c.self.view_is in
     c.remove.ensures.value
-    ∙ looked c.self.inside.entries c.self.inside.index c.args.self.now keyed c.args.key.now c.in_ok-place.place
+    ∙ looked keyed c.args.key.now c.in_ok-place.place
     (sym c.forget.ensures.place ∙ c.in_ok-place.was)
 
 pub returns-clause-entries : goal.returns-clause-entries
 returns-clause-entries g c =
-    let keyed = opened _ _ _ c.self.invariant c.self.view_is in
-    seen _ _ _ (taken c.self.inside.entries c.self.inside.index c.args.self.now keyed c.remove.new.self c.forget.new.index c.args.key.now
+    let keyed = opened c.self.invariant c.self.view_is in
+    seen (taken keyed c.remove.new.self c.forget.new.index c.args.key.now
     c.in_ok-place.place (sym c.forget.ensures.place ∙ c.in_ok-place.was) c.remove.ensures.entries c.forget.ensures.others)

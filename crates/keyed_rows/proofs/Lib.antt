@@ -1,5 +1,5 @@
 mod Places
-mod Finds
+pub mod Finds
 mod Lasts
-mod Edits
+pub mod Edits
 mod Kept

@@ -1,4 +1,4 @@
-ghost use Rattle.std.specs.Prelude.{◌≡◌, ◌++◌, ◌∷◌, [], true, false, length, is_some, option_map, IfOk, IfErr, OnOk, IsSome, Some};
+ghost use Rattle.std.specs.Prelude.{◌≡◌, ◌++◌, ◌∷◌, [], true, false, length, is_ok, is_some, option_map, IfOk, IfErr, OnOk, IsSome, Some};
 ghost use Rattle.std.specs.BTreeMap.{get};
 ghost use Rattle.std.specs.Option.{option_copied};
 ghost use Rattle.std.specs.Ordering.{nat_cmp};
@@ -124,8 +124,9 @@ impl<V> Keyed<V> {
 
     /// Puts a value in the place of that of the key, and gives that one. Where there is no such key it hands the value back.
     pub fn replace(&mut self, key: &Bytes, value: V) -> Result<V, V>
-        ensures found { IfOk result (λ was. option_map (λ entry. entry.value) (found key.now self.old) ≡ Some was) }
-        ensures absent { IfErr result (λ back. (back ≡ value) × (has_key key.now self.old ≡ false)) }
+        ensures there { is_ok result ≡ has_key key.now self.old }
+        ensures was { IfOk result (λ was. option_map (λ entry. entry.value) (found key.now self.old) ≡ Some was) }
+        ensures back { IfErr result (λ back. back ≡ value) }
         ensures entries { self.new ≡ replaced key.now value self.old }
     {
         match place_of(&self.index, key) {
@@ -136,6 +137,7 @@ impl<V> Keyed<V> {
 
     /// Takes the entry of the key out.
     pub fn remove(&mut self, key: &Bytes) -> Option<Entry<V>>
+        ensures there { is_some result ≡ has_key key.now self.old }
         ensures found { result ≡ found key.now self.old }
         ensures entries { self.new ≡ removed key.now self.old }
     {

@@ -18,10 +18,13 @@ pub struct Table {
 }
 
 impl Model for Table {
+    ghost use Rattle.table_rows.specs.contracts.listed.Listed as listed;
     ghost use Rattle.table_rows.specs.declared.listed.Listed.{Listed};
     ghost use Rattle.table_rows.specs.Kept.{placed};
 
     ghost Value = { Listed };
+
+    ghost coded = { listed.the_row.coded };
 
     ghost view = { λ it. record { number = it.number; stamp = it.stamp; rows = placed it.rows } };
 }
@@ -58,6 +61,7 @@ impl Table {
         self.rows.len()
     }
 
+    #[tactic(auto, using(crate::proofs::Placing::has_placed))]
     pub fn has(&self, key: &Bytes) -> bool
         ensures { result ≡ has_key key.now self.now.rows }
     {

@@ -1,6 +1,7 @@
-use Rattle.std.proofs.Common.{refl, sym}
+use Rattle.std.proofs.Common.{◌∙◌, ap, sym}
+use Rattle.std.specs.Prelude.{is_some}
 use Rattle.keyed_rows.proofs.Edits.{replaced_none}
-use Rattle.keyed_rows.proofs.Kept.{opened, closed, seen, missed, absent, stands_there, swapped, swapped_out}
+use Rattle.keyed_rows.proofs.Kept.{opened, closed, seen, has, missed, stands_there, swapped, swapped_out}
 use Rattle.keyed_rows.proofs.keyed.Keyed.replace.Goals as goal
 
 pub swap-requires : goal.swap-requires
@@ -14,8 +15,8 @@ invariant_of-self g c =
     closed (swapped keyed c.swap.new.entries c.args.key.now c.in-Some.place
     c.swap.result c.args.value (sym c.in-Some.ensures) c.swap.ensures)
 
-pub returns-in-Some-clause-found : goal.returns-in-Some-clause-found
-returns-in-Some-clause-found g c =
+pub returns-in-Some-clause-was : goal.returns-in-Some-clause-was
+returns-in-Some-clause-was g c =
     let keyed = opened c.self.invariant c.self.view_is in
     swapped_out keyed c.swap.new.entries c.args.key.now c.in-Some.place
     c.swap.result c.args.value (sym c.in-Some.ensures) c.swap.ensures
@@ -26,10 +27,11 @@ returns-in-Some-clause-entries g c =
     seen (swapped keyed c.swap.new.entries c.args.key.now c.in-Some.place
     c.swap.result c.args.value (sym c.in-Some.ensures) c.swap.ensures)
 
-pub returns-in-None-clause-absent : goal.returns-in-None-clause-absent
-returns-in-None-clause-absent g c =
-    let keyed = opened c.self.invariant c.self.view_is in
-    (refl, absent keyed c.args.key.now (sym c.in-None.ensures))
+pub returns-in-Some-clause-there : goal.returns-in-Some-clause-there
+returns-in-Some-clause-there g c = ap is_some c.in-Some.ensures ∙ has (opened c.self.invariant c.self.view_is) c.args.key.now
+
+pub returns-in-None-clause-there : goal.returns-in-None-clause-there
+returns-in-None-clause-there g c = ap is_some c.in-None.ensures ∙ has (opened c.self.invariant c.self.view_is) c.args.key.now
 
 pub returns-in-None-clause-entries : goal.returns-in-None-clause-entries
 returns-in-None-clause-entries g c =

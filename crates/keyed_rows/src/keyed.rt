@@ -84,7 +84,8 @@ impl<V> Keyed<V> {
     }
 
     pub fn get(&self, key: &Bytes) -> Option<&Entry<V>>
-        ensures { option_copied result ≡ found key.now self.now }
+        ensures found { option_copied result ≡ found key.now self.now }
+        ensures differ { keys_differ self.now ≡ true }
     {
         let place = place_of(&self.index, key)?;
         self.entries.get(&place)

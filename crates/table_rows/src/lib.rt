@@ -4,6 +4,7 @@
 mod body;
 mod listed;
 mod row;
+mod selecting;
 mod table;
 
 pub use listed::{Listed, Placed};

@@ -1,10 +1,11 @@
 ghost use Rattle.std.specs.Prelude.{◌≡◌, ◌∷◌, ◌++◌, [], true, false, length, IfOk, IfErr, OnOk};
 ghost use Rattle.table_rows.specs.Rows.{above, has_key, keys_differ, places_rise, removed, replaced, selected};
 
-use crate::body::{Body, row_of};
+use crate::body::Body;
 use crate::row::Row;
+use crate::selecting::{named_key, select_all, select_at};
 use bson_values::{Bytes, List, NoMemory};
-use jsonb_contain::{Cond, meets};
+use jsonb_contain::Cond;
 use keyed_rows::Keyed;
 use std::alloc::Global;
 use std::marker::Model;
@@ -53,6 +54,7 @@ impl Table {
         self.stamp
     }
 
+    #[tactic(auto, using(crate::proofs::Placing::rise_placed, crate::proofs::Placing::differ_placed))]
     pub fn len(&self) -> usize
         ensures len { result ≡ length self.now.rows }
         ensures rise { places_rise self.now.rows ≡ true }
@@ -69,27 +71,25 @@ impl Table {
     }
 
     /// Whether a place is above those of all rows.
+    #[tactic(auto, using(crate::proofs::Placing::above_placed))]
     pub fn is_above(&self, place: u64) -> bool
         ensures { result ≡ above place self.now.rows }
     {
         self.rows.is_above(place)
     }
 
-    /// Copies of the rows that meet the condition, in order.
+    /// Copies of the rows that meet the condition, in order. Where that names a key, no other row is looked at.
     pub fn select(&self, alloc: Global, cond: &Cond) -> Result<List<Row>, NoMemory>
         ensures { IfOk result (λ rows. rows ≡ selected cond.now self.now.rows) }
     {
-        let mut chosen = List::new(alloc);
-        for kept in self.rows.iter() {
-            if meets(cond, &kept.key, &kept.value.json) {
-                let row = row_of(alloc, kept)?;
-                chosen.add(row)?;
-            }
+        match named_key(cond) {
+            Some(key) => select_at(alloc, cond, &self.rows, key),
+            None => select_all(alloc, cond, &self.rows),
         }
-        Ok(chosen)
     }
 
     /// Adds a row last. Want of memory hands it back.
+    #[tactic(auto, using(crate::proofs::Placing::has_placed, crate::proofs::Placing::above_placed))]
     pub fn insert(&mut self, place: u64, row: Row) -> Result<(), Row>
         requires absent { has_key row.key self.old.rows ≡ false }
         requires above { above place self.old.rows ≡ true }
@@ -104,6 +104,7 @@ impl Table {
     }
 
     /// Puts a row in the place of that with its key, and says whether there was one.
+    #[tactic(auto, using(crate::proofs::Placing::has_placed, crate::proofs::Placing::replaced_placed))]
     pub fn replace(&mut self, row: Row) -> bool
         ensures found { result ≡ has_key row.key self.old.rows }
         ensures rows { self.new ≡ record self.old { rows = replaced row self.old.rows } }
@@ -116,6 +117,7 @@ impl Table {
     }
 
     /// Takes the row of the key out, and says whether there was one.
+    #[tactic(auto, using(crate::proofs::Placing::has_placed, crate::proofs::Placing::removed_placed))]
     pub fn remove(&mut self, key: &Bytes) -> bool
         ensures found { result ≡ has_key key.now self.old.rows }
         ensures rows { self.new ≡ record self.old { rows = removed key.now self.old.rows } }

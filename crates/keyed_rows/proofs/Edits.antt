@@ -24,6 +24,9 @@ false-not a e = rw e refl
 pub swapped : (one other : List ℕ) → bytes_eq one other ≡ bytes_eq other one
 swapped one other = nat_list_eq_equiv.symm one other
 
+pub itself : (key : List ℕ) → bytes_eq key key ≡ true
+itself key = (bytes_eq-Decides key key).1 refl
+
 pub same : (one other : List ℕ) → bytes_eq one other ≡ true → one ≡ other
 same one other = (bytes_eq-Decides one other).0
 

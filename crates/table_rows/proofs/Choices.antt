@@ -1,5 +1,5 @@
 -- What is chosen of rows by a condition.
-use Rattle.std.proofs.Common.{◌≡◌, ◌∙◌, ◌++◌, ◌&&◌, not, ℕ, Bool, true, false, Option, None, Some, List, [], ◌∷◌, refl, sym, ap, subst}
+use Rattle.std.proofs.Common.{◌≡◌, ◌∙◌, ◌++◌, not, ℕ, Bool, true, false, Option, None, Some, List, [], ◌∷◌, refl, sym, ap, subst}
 use Rattle.std.specs.Prelude.{IfSome, if◌then◌else◌, option_to_list}
 use Rattle.std.specs.List.{list_all}
 use Rattle.std.specs.Str.{bytes_eq}
@@ -16,7 +16,6 @@ use Rattle.keyed_rows.specs.declared.entry.Entry.{Entry}
 use Rattle.keyed_rows.specs.Entries as kept
 use Rattle.keyed_rows.proofs.Edits.{not-false}
 use Rattle.table_rows.specs.declared.body.Body.{Body}
-use Rattle.table_rows.specs.declared.row.Row.{Row}
 use Rattle.table_rows.specs.Kept.{placed, row_of}
 use Rattle.table_rows.specs.Naming.{Names, NamesOne}
 use Rattle.table_rows.specs.Rows.{selected}
@@ -93,7 +92,7 @@ only_that key cond (entry ∷ entries) names differ found is =
         → selected cond (placed (option_to_list found)) ≡ selected cond (placed (entry ∷ entries))
     cases true here found_is apart rest =
         let absent : kept.has_key key entries ≡ false =
-            subst (λ bytes. kept.has_key bytes entries ≡ false) (sym ((bytes_eq-Decides key entry.key).0 here)) apart in
+        subst (λ bytes. kept.has_key bytes entries ≡ false) (sym ((bytes_eq-Decides key entry.key).0 here)) apart in
         rw (found_is, none key cond entries names absent) refl
     cases false here found_is apart rest = cases_met (met cond entry.key entry.value.json) refl
       where

@@ -1,12 +1,11 @@
 -- The words on rows, said of what is kept.
-use Rattle.std.proofs.Common.{◌≡◌, ◌&&◌, ◌||◌, not, ℕ, Bool, true, false, List, [], ◌∷◌, refl, sym, ap}
+use Rattle.std.proofs.Common.{◌≡◌, ◌&&◌, ◌||◌, ℕ, Bool, true, false, List, [], ◌∷◌, refl, sym, ap}
 use Rattle.std.specs.Prelude.{if◌then◌else◌, nat_lt}
 use Rattle.std.specs.Str.{bytes_eq}
 use Rattle.std.proofs.lemmas.Slice.Eq.{bytes_eq-Decides}
 use Rattle.keyed_rows.specs.declared.entry.Entry.{Entry}
 use Rattle.keyed_rows.specs.Entries as kept
 use Rattle.table_rows.specs.declared.body.Body.{Body}
-use Rattle.table_rows.specs.declared.listed.Placed.{Placed}
 use Rattle.table_rows.specs.declared.row.Row.{Row}
 use Rattle.table_rows.specs.Kept.{placed, row_of}
 use Rattle.table_rows.specs.Rows.{above, below, has_key, keys_differ, places_rise, removed, replaced}

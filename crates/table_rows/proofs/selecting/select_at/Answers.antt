@@ -14,4 +14,5 @@ pub returns-in_ok-add_if_met-in-Some : goal.returns-in_ok-add_if_met-in-Some
 returns-in_ok-add_if_met-in-Some c =
     c.in_ok-add_if_met-in-Some.ensures
     ∙ ap (λ (before : List Row). before ++ selected c.args.cond.now (placed (c.in-Some.kept.now ∷ []))) c.new-chosen.ensures
-    ∙ only_that c.args.key.now c.args.cond.now c.args.rows.now c.requires c.get.ensures.differ (Some c.in-Some.kept.now) c.in-Some.ensures.found
+    ∙ only_that c.args.key.now c.args.cond.now c.args.rows.now c.requires c.get.ensures.differ (Some c.in-Some.kept.now)
+    c.in-Some.ensures.found

@@ -3,7 +3,7 @@ ghost use Rattle.std.specs.BTreeMap.{get};
 ghost use Rattle.std.specs.Option.{option_copied};
 ghost use Rattle.std.specs.Ordering.{nat_cmp};
 ghost use Rattle.std.specs.Map.Iter.{ShowsInOrder, deref};
-ghost use Rattle.keyed_rows.specs.declared.entry.Entry.{Entry as Row};
+ghost use Rattle.keyed_rows.specs.declared.entry.Entry.{Entry as Kept};
 ghost use Rattle.keyed_rows.specs.Index.{Swaps};
 ghost use Rattle.keyed_rows.specs.Entries.{above, found, has_key, keys_differ, places_rise, removed, replaced};
 
@@ -27,17 +27,17 @@ pub struct Keyed<V> {
 impl<V> Model for Keyed<V> {
     ghost use Rattle.std.specs.Prelude.{List as Seq};
     ghost use Rattle.std.specs.BTreeMap.{values};
-    ghost use Rattle.keyed_rows.specs.declared.entry.Entry.{Entry as Row};
+    ghost use Rattle.keyed_rows.specs.declared.entry.Entry.{Entry as Kept};
     ghost use Rattle.keyed_rows.specs.Index.{IsKeyed};
 
-    ghost Value = { Seq (Row V) };
+    ghost Value = { Seq (Kept V) };
 
     ghost view = { λ it. values it.entries };
 
     ghost invariant = { λ it. IsKeyed it.entries it.index (values it.entries) };
 }
 
-/// Puts a value in the place of that under a place, and gives that one.
+/// Puts a value where another stands, at a place of an entry, and gives that one.
 fn swap<V>(entries: &mut BTreeMap<u64, Entry<V>>, place: u64, value: V) -> V
     requires { IsSome (get nat_cmp entries.old place) }
     ensures { Swaps place result value entries.old entries.new }
@@ -70,7 +70,7 @@ impl<V> Keyed<V> {
     /// The entries, in the order of their places.
     pub fn iter(&self) -> Values<'_, u64, Entry<V>>
         ensures rest { result ≡ self.now }
-        ensures runs { ShowsInOrder (deref {X = Row V}) }
+        ensures runs { ShowsInOrder (deref {X = Kept V}) }
         ensures rise { places_rise self.now ≡ true }
         ensures differ { keys_differ self.now ≡ true }
     {
@@ -123,7 +123,7 @@ impl<V> Keyed<V> {
         }
     }
 
-    /// Puts a value in the place of that of the key, and gives that one. Where there is no such key it hands the value back.
+    /// Puts a value at a key in place of the one there, and gives that one. Where the key is not there, it hands the value back.
     pub fn replace(&mut self, key: &Bytes, value: V) -> Result<V, V>
         ensures there { is_ok result ≡ has_key key.now self.old }
         ensures was { IfOk result (λ was. option_map (λ entry. entry.value) (found key.now self.old) ≡ Some was) }

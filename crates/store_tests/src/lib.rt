@@ -1,4 +1,4 @@
-//! Store: what the clauses of this shelf's crates do not say, in rows. A crate that has its tests within it is proved twice, so they stand here.
+//! Store: what the clauses of this shelf's crates do not say. A crate that has its tests within it is proved twice, so they stand here.
 #![tactic(auto)]
 
 #[cfg(test)]

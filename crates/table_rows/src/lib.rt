@@ -1,8 +1,10 @@
-//! Store: a table: rows in the order of their places, found by their keys.
+//! Store: a table, which is rows with distinct keys in the order of their places, and what of it meets a condition.
 #![tactic(auto)]
 
+mod body;
 mod listed;
 mod row;
+mod selecting;
 mod table;
 
 pub use listed::{Listed, Placed};

@@ -1,53 +1,33 @@
 ghost use Rattle.std.specs.Prelude.{◌≡◌, ◌∷◌, ◌++◌, [], true, false, length, IfOk, IfErr, OnOk};
-ghost use Rattle.std.specs.List.{position};
-ghost use Rattle.std.specs.Str.{bytes_eq};
-ghost use Rattle.table_rows.specs.Rows.{above, has_key, selected, replaced, removed};
-ghost use Rattle.table_rows.specs.Stands.{Found};
+ghost use Rattle.table_rows.specs.Rows.{above, has_key, keys_differ, places_rise, removed, replaced, selected};
 
-use bson_values::{Bytes, List, NoMemory};
-use crate::listed::Placed;
+use crate::body::Body;
 use crate::row::Row;
-use jsonb_contain::{Cond, meets};
+use crate::selecting::{named_key, select_all, select_at};
+use bson_values::{Bytes, List, NoMemory};
+use jsonb_contain::Cond;
+use keyed_rows::Keyed;
 use std::alloc::Global;
 use std::marker::Model;
 
+/// A table: rows with distinct keys, in the order of their places.
 #[derive(Drop)]
 pub struct Table {
     number: u64,
     stamp: u64,
-    rows: Vec<Placed>,
+    rows: Keyed<Body>,
 }
 
 impl Model for Table {
+    ghost use Rattle.table_rows.specs.contracts.listed.Listed as listed;
     ghost use Rattle.table_rows.specs.declared.listed.Listed.{Listed};
-
-    ghost use Rattle.jsonb_contain.specs.contracts.value.Json as json;
-    ghost use Rattle.std.specs.Coded.{codes};
+    ghost use Rattle.table_rows.specs.Kept.{placed};
 
     ghost Value = { Listed };
 
-    ghost coded = { Prim.hlevel (codes, json.the_row.coded) };
+    ghost coded = { listed.the_row.coded };
 
-    ghost view = { λ t. record { number = t.number; stamp = t.stamp; rows = t.rows.items } };
-}
-
-fn same_key(one: &Bytes, other: &Bytes) -> bool
-    ensures { result ≡ bytes_eq one.now other.now }
-{
-    one.as_slice() == other.as_slice()
-}
-
-fn first_of(key: &Bytes, rows: &[Placed]) -> Option<usize>
-    ensures { result ≡ position (λ kept. bytes_eq key.now kept.row.key) rows.now }
-{
-    rows.iter().position(|kept| same_key(key, &kept.row.key))
-}
-
-/// Where the row of the key stands.
-fn place_of(key: &Bytes, rows: &[Placed]) -> Option<usize>
-    ensures { Found key.now rows.now result }
-{
-    first_of(key, rows)
+    ghost view = { λ it. record { number = it.number; stamp = it.stamp; rows = placed it.rows } };
 }
 
 impl Table {
@@ -58,7 +38,7 @@ impl Table {
         Table {
             number,
             stamp: number,
-            rows: Vec::new(alloc),
+            rows: Keyed::new(alloc),
         }
     }
 
@@ -74,78 +54,75 @@ impl Table {
         self.stamp
     }
 
+    #[tactic(auto, using(crate::proofs::Placing::rise_placed, crate::proofs::Placing::differ_placed))]
     pub fn len(&self) -> usize
-        ensures { result ≡ length self.now.rows }
+        ensures len { result ≡ length self.now.rows }
+        ensures rise { places_rise self.now.rows ≡ true }
+        ensures differ { keys_differ self.now.rows ≡ true }
     {
         self.rows.len()
     }
 
+    #[tactic(auto, using(crate::proofs::Placing::has_placed))]
     pub fn has(&self, key: &Bytes) -> bool
         ensures { result ≡ has_key key.now self.now.rows }
     {
-        place_of(key, &self.rows).is_some()
+        self.rows.has(key)
     }
 
-    /// Copies of the rows that meet the condition, in order.
+    /// Whether a place is above those of all rows.
+    #[tactic(auto, using(crate::proofs::Placing::above_placed))]
+    pub fn is_above(&self, place: u64) -> bool
+        ensures { result ≡ above place self.now.rows }
+    {
+        self.rows.is_above(place)
+    }
+
+    /// Copies of the rows that meet the condition, in order. Where that names a key, no other row is looked at.
     pub fn select(&self, alloc: Global, cond: &Cond) -> Result<List<Row>, NoMemory>
         ensures { IfOk result (λ rows. rows ≡ selected cond.now self.now.rows) }
     {
-        let mut chosen = List::new(alloc);
-        let mut rest = self.rows.as_slice();
-        while let [kept, others @ ..] = rest {
-            if meets(cond, &kept.row.key, &kept.row.json) {
-                let row = kept.row.copy(alloc)?;
-                if chosen.push(row).is_err() {
-                    return Err(NoMemory);
-                }
-            }
-            rest = others;
+        match named_key(cond) {
+            Some(key) => select_at(alloc, cond, &self.rows, key),
+            None => select_all(alloc, cond, &self.rows),
         }
-        Ok(chosen)
     }
 
     /// Adds a row last. Want of memory hands it back.
+    #[tactic(auto, using(crate::proofs::Placing::has_placed, crate::proofs::Placing::above_placed))]
     pub fn insert(&mut self, place: u64, row: Row) -> Result<(), Row>
         requires absent { has_key row.key self.old.rows ≡ false }
         requires above { above place self.old.rows ≡ true }
-        ensures ok { OnOk result (self.new ≡ record self.old { rows = self.old.rows ++ record { place = place; row = row } ∷ [] }) }
+        ensures ok { OnOk result (self.new ≡ record self.old { rows = self.old.rows ++ (record { place = place; row = row }) ∷ [] }) }
         ensures err { IfErr result (λ back. (back ≡ row) × (self.new ≡ self.old)) }
     {
-        match self.rows.push(Placed { place, row }) {
+        let Row { key, json, text } = row;
+        match self.rows.insert(place, key, Body { json, text }) {
             Ok(()) => Ok(()),
-            Err(refused) => {
-                let Placed { row, .. } = refused.value;
-                Err(row)
-            }
+            Err((key, Body { json, text })) => Err(Row { key, json, text }),
         }
     }
 
-    /// Puts the row over the one with its key, and says whether there is one.
+    /// Puts a row in the place of that with its key, and says whether there was one.
+    #[tactic(auto, using(crate::proofs::Placing::has_placed, crate::proofs::Placing::replaced_placed))]
     pub fn replace(&mut self, row: Row) -> bool
         ensures found { result ≡ has_key row.key self.old.rows }
         ensures rows { self.new ≡ record self.old { rows = replaced row self.old.rows } }
     {
-        match place_of(&row.key, &self.rows) {
-            Some(place) => {
-                self.rows[place].row = row;
-                true
-            }
-            None => false,
+        let Row { key, json, text } = row;
+        match self.rows.replace(&key, Body { json, text }) {
+            Ok(_) => true,
+            Err(_) => false,
         }
     }
 
-    /// Takes the row of the key out, and says whether there is one.
+    /// Takes the row of the key out, and says whether there was one.
+    #[tactic(auto, using(crate::proofs::Placing::has_placed, crate::proofs::Placing::removed_placed))]
     pub fn remove(&mut self, key: &Bytes) -> bool
         ensures found { result ≡ has_key key.now self.old.rows }
         ensures rows { self.new ≡ record self.old { rows = removed key.now self.old.rows } }
     {
-        match place_of(key, &self.rows) {
-            Some(place) => {
-                let _row = self.rows.remove(place);
-                true
-            }
-            None => false,
-        }
+        self.rows.remove(key).is_some()
     }
 
     pub fn set_stamp(&mut self, stamp: u64)

@@ -1,5 +1,7 @@
 -- Counts of faults.
-use Rattle.std.specs.Prelude.{ℕ, ◌≡◌, ◌+◌, ◌-◌, ◌^◌, ◌≤◌, min, Result, OnErr, OnOk}
+use Rattle.std.specs.Prelude.{ℕ, ◌≡◌, ◌+◌, ◌-◌, ◌^◌, ◌≤◌, min, Result, Ok, Err, OnErr, OnOk}
+use Rattle.outside.specs.declared.keeper.KeepError.{KeepError}
+use Rattle.outside.specs.declared.keeper.KeepError.TheVariants.{Failed, NoMemory}
 
 -- the count rose, or stands at the end of a u64
 abbrev pub Rose : ℕ → ℕ → Type 0
@@ -10,3 +12,9 @@ pub record HasCause {T E : Type 0} (before now : ℕ) (result : Result T E) : Ty
   pub later : before ≤ now
   pub failed : OnErr result (Rose before now)
   pub kept : OnOk result (now ≡ before)
+
+-- what a keeper's call tells of failures: want of memory is none
+abbrev pub failure_of : {T : Type 0} → Result T KeepError → Result (Unit {0}) (Unit {0})
+failure_of (Ok made) = Ok tt
+failure_of (Err Failed) = Err tt
+failure_of (Err NoMemory) = Ok tt

@@ -1,8 +1,8 @@
--- What is told of bytes and moments. It may stop being told, and is never told again.
+-- What is told of bytes, moments and tables. It may stop being told, and is never told again.
 use Rattle.std.specs.Prelude.{ℕ, ◌≡◌, ◌++◌, List, [], take, Option, None, Some, Result, Ok, Err}
 
 -- what is told, if it is, is this
-abbrev pub Tells : Option (List ℕ) → List ℕ → Type 0
+abbrev pub Tells : {A : Type 0} → Option A → A → Type 0
 Tells None all = Unit {0}
 Tells (Some told) all = told ≡ all
 

@@ -7,3 +7,4 @@ pub mod Source
 pub mod MemoryKeeper
 pub mod MemoryLink
 pub mod SureLink
+pub mod Worlds

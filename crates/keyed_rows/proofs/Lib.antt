@@ -1,0 +1,5 @@
+mod Places
+pub mod Finds
+mod Lasts
+pub mod Edits
+mod Kept

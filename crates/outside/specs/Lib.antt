@@ -2,6 +2,9 @@ pub mod Told
 pub mod Causes
 pub mod Counts
 pub mod Changes
+pub mod Tables
 pub mod Source
+pub mod MemoryKeeper
 pub mod MemoryLink
 pub mod SureLink
+pub mod Worlds

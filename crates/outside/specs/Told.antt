@@ -6,6 +6,11 @@ abbrev pub Tells : {A : Type 0} → Option A → A → Type 0
 Tells None all = Unit {0}
 Tells (Some told) all = told ≡ all
 
+-- what the one tells, the other tells
+abbrev pub TellsAll : {A : Type 0} → Option A → Option A → Type 0
+TellsAll None other = Unit {0}
+TellsAll (Some told) other = other ≡ Some told
+
 -- this came at the end
 abbrev pub Grows : Option (List ℕ) → Option (List ℕ) → List ℕ → Type 0
 Grows None new more = new ≡ None

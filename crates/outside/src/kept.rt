@@ -1,4 +1,7 @@
-use bson_values::{Bytes, List, Space, Text};
+ghost use Rattle.std.specs.Prelude.{◌≡◌, IfOk};
+
+use bson_values::{Bytes, List, NoMemory, Space, Text};
+use std::alloc::Global;
 
 /// A row of a table: the text stands under its key, at a place among the other rows.
 #[derive(Drop)]
@@ -47,4 +50,18 @@ pub enum Change {
         number: u64,
         key: Bytes,
     },
+}
+
+impl KeptRow {
+    pub(crate) fn copy(&self, alloc: Global) -> Result<KeptRow, NoMemory>
+        ensures { IfOk result (λ copied. copied ≡ self.now) }
+    {
+        let key = self.key.copy(alloc)?;
+        let text = self.text.copy(alloc)?;
+        Ok(KeptRow {
+            place: self.place,
+            key,
+            text,
+        })
+    }
 }

@@ -1,60 +1,127 @@
-ghost use Rattle.std.specs.Prelude.{◌≡◌, Some, None, is_none, IsSome};
+ghost use Rattle.std.specs.Prelude.{◌≡◌, ◌↔◌, [], Contains, Some, None, is_none, unwrap_or, IsSome, IsErr, IfOk, IfErr, OnOk, OnErr};
 ghost use Rattle.std.specs.Option.{option_and_then};
-ghost use Rattle.outside.specs.Told.{IsFresh};
+ghost use Rattle.outside.specs.declared.keeper.KeepError.TheVariants as refused;
+ghost use Rattle.outside.specs.Counts.{raised};
+ghost use Rattle.outside.specs.MemoryLink.{IsFreshMemoryLink};
+ghost use Rattle.outside.specs.MemoryKeeper.{memory_keeper};
 
-use crate::link::Link;
-use crate::sure_link::SureLink;
+use crate::archive::Archive;
+use crate::keeper::KeepError;
+use crate::kept::Kept;
+use crate::memory_keeper::MemoryKeeper;
+use crate::memory_link::MemoryLink;
+use crate::supply::Supply;
 use crate::world::World;
+use bson_values::{List, NoMemory};
+use std::alloc::Global;
 use std::marker::Model;
+use std::mem::replace;
 
-/// A world in memory, whose console is a link that was made before. Contracts see it, until it is given.
+/// The numbers, from 0, of the calls that fail.
 #[derive(Drop)]
-pub struct MemoryWorld<L: Link> {
-    console: Option<L>,
+pub struct Bad {
+    pub keeps: List<u64>,
+    /// Of the first keeper that the world gives.
+    pub applies: List<u64>,
 }
 
-impl<L: Link> Model for MemoryWorld<L> {
-    ghost use Rattle.std.specs.Prelude.{Option};
-    ghost use Rattle.std.specs.Option.{ForSome};
-    ghost use Rattle.outside.specs.Told.{IsFresh};
-
-    ghost Value = { Option L };
-
-    ghost view = { λ it. it.console };
-
-    ghost invariant = { λ it. ForSome it.console (λ link.
-        IsFresh (L.taken link) (L.written link) (L.moments link) (L.read_faults link) (L.write_faults link)) };
+/// A world in memory, whose calls fail as it was told.
+///
+/// It gives its tables once; a keeper that it gives after that has none. A number of calls stands still at the end of a u64.
+#[derive(Drop)]
+pub struct MemoryWorld {
+    supply: Supply<MemoryLink>,
+    bad: Bad,
+    keeps: u64,
+    keep_faults: u64,
 }
 
-impl<L: Link> MemoryWorld<L> {
-    pub fn new(console: L) -> MemoryWorld<L>
-        requires { IsFresh (L.taken console) (L.written console) (L.moments console)
-            (L.read_faults console) (L.write_faults console) }
-        ensures { result ≡ Some console }
+impl Model for MemoryWorld {
+    ghost use Rattle.outside.specs.Worlds.{MemoryWorldState};
+
+    ghost Value = { MemoryWorldState };
+
+    ghost view = { λ it. record {
+      console = it.supply.0;
+      tables = it.supply.1;
+      bad_keeps = it.bad.keeps;
+      bad_applies = it.bad.applies;
+      keeps = it.keeps;
+      keep_faults = it.keep_faults;
+    } };
+}
+
+impl MemoryWorld {
+    pub fn new(
+        alloc: Global,
+        console: MemoryLink,
+        tables: Kept,
+        bad: Bad,
+    ) -> Result<MemoryWorld, NoMemory>
+        requires { IsFreshMemoryLink console }
+        ensures { IfOk result (λ made. made ≡ record {
+          console = Some console;
+          tables = Some tables.tables;
+          bad_keeps = bad.keeps;
+          bad_applies = bad.applies;
+          keeps = 0;
+          keep_faults = 0;
+        }) }
     {
-        MemoryWorld {
-            console: Some(console),
+        let archive = Archive::of(alloc, tables)?;
+        Ok(MemoryWorld {
+            supply: Supply::new(console, archive),
+            bad,
+            keeps: 0,
+            keep_faults: 0,
+        })
+    }
+}
+
+impl World for MemoryWorld {
+    type Console = MemoryLink;
+
+    type Keeper = MemoryKeeper;
+
+    ghost is_given = { λ world. is_none world.console };
+
+    ghost input = { λ world. option_and_then (λ link. Some link.source.left) world.console };
+
+    ghost tables = { λ world. world.tables };
+
+    ghost keep_faults = { λ world. world.keep_faults };
+
+    fn console(&mut self) -> MemoryLink
+        requires { IsSome self.old.console }
+        ensures given { self.old.console ≡ Some result }
+        ensures rest { self.new ≡ record self.old { console = None } }
+        ensures fresh { IsFreshMemoryLink result }
+    {
+        self.supply.console()
+    }
+
+    fn keep(&mut self, alloc: Global, _path: Option<&str>) -> Result<MemoryKeeper, KeepError>
+        ensures fails { IsErr result ↔ Contains self.old.bad_keeps self.old.keeps }
+        ensures keeper { IfOk result (λ keeper. keeper
+            ≡ memory_keeper (unwrap_or self.old.tables []) self.old.bad_applies) }
+        ensures ok { OnOk result (self.new ≡ record self.old {
+          tables = None;
+          bad_applies = [];
+          keeps = raised self.old.keeps;
+        }) }
+        ensures refused { IfErr result (λ refusal. refusal ≡ refused.Failed) }
+        ensures err { OnErr result (self.new ≡ record self.old {
+          keeps = raised self.old.keeps;
+          keep_faults = raised self.old.keep_faults;
+        }) }
+    {
+        let fails = self.bad.keeps.as_slice().contains(&self.keeps);
+        self.keeps = self.keeps.saturating_add(1);
+        if fails {
+            self.keep_faults = self.keep_faults.saturating_add(1);
+            return Err(KeepError::Failed);
         }
+        let bad_applies = replace(&mut self.bad.applies, List::new(alloc));
+        Ok(MemoryKeeper::over(self.supply.archive(alloc), bad_applies))
     }
 }
-
-impl<L: Link> World for MemoryWorld<L> {
-    type Console = L;
-
-    ghost is_given = { is_none };
-
-    ghost input = { option_and_then L.left };
-
-    fn console(&mut self) -> L
-        requires { IsSome self.old }
-        ensures given { self.old ≡ Some result }
-        ensures once { self.new ≡ None }
-        ensures fresh { IsFresh (L.taken result) (L.written result) (L.moments result)
-            (L.read_faults result) (L.write_faults result) }
-    {
-        self.console.take().unwrap()
-    }
-}
-
-/// A world in memory whose console never fails.
-pub type SureWorld = MemoryWorld<SureLink>;

@@ -1,4 +1,6 @@
 mod calls;
+mod keepers;
+mod kept;
 mod links;
 mod samples;
 mod worlds;

@@ -8,7 +8,7 @@ use std::alloc::Global;
 
 const INPUT: &[u8] = b"abcdefghij";
 
-fn numbers(alloc: Global, numbers: &[u64]) -> Result<List<u64>, NoMemory> {
+pub fn numbers(alloc: Global, numbers: &[u64]) -> Result<List<u64>, NoMemory> {
     Ok(List::from_vec(Vec::from_slice(alloc, numbers)?))
 }
 

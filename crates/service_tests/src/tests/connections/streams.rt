@@ -1,11 +1,11 @@
-ghost use Rattle.std.specs.Prelude.{◌≤◌, Some, IfOk};
+ghost use Rattle.std.specs.Prelude.{◌≤◌, Some, IfOk, IsSome};
 ghost use Rattle.outside.specs.MemoryLink.{IsFreshMemoryLink};
 ghost use Rattle.outside.specs.Source.{moments_of};
 
 use bson_values::{Bytes, List, NoMemory};
 use doc_model::PlainStore;
 use doc_server::{Ended, Finished, Why, ferret, serve_link};
-use outside::{Failed, Gate, Link, MemoryLink, MemoryWorld};
+use outside::{Bad, Failed, Gate, Kept, Link, MemoryLink, MemoryWorld};
 use std::alloc::Global;
 use std::test::Fail;
 
@@ -61,6 +61,21 @@ fn link(
     Ok(MemoryLink::new(alloc, input, cuts, bad_reads, bad_writes, moments))
 }
 
+/// A world over the link, with no tables.
+fn world(alloc: Global, link: MemoryLink) -> Result<MemoryWorld, NoMemory>
+    requires { IsFreshMemoryLink link }
+    ensures { IfOk result (λ world. IsSome world.console) }
+{
+    let tables = Kept {
+        tables: List::new(alloc),
+    };
+    let bad = Bad {
+        keeps: List::new(alloc),
+        applies: List::new(alloc),
+    };
+    MemoryWorld::new(alloc, link, tables, bad)
+}
+
 /// What a run of the program came to.
 #[derive(Drop)]
 pub(crate) struct Ending {
@@ -81,7 +96,7 @@ pub(crate) fn outcome(
     for word in words {
         line.push(String::from_str(alloc, word)?)?;
     }
-    let mut world = MemoryWorld::new(link(alloc, input, cut, bad_reads, bad_writes)?);
+    let mut world = world(alloc, link(alloc, input, cut, bad_reads, bad_writes)?)?;
     let Finished {
         status,
         console,

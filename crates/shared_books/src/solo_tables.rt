@@ -20,7 +20,13 @@ impl<K: Keeper + Drop> Model for SoloTables<K> {
     ghost use Rattle.shared_books.specs.Desks.{SoloDesk};
     ghost use Rattle.table_words.specs.Sound.{Sound};
 
+    ghost use Rattle.jsonb_contain.specs.contracts.value.Json as json;
+    ghost use Rattle.jsonb_contain.specs.contracts.cond.Cond as cond;
+    ghost use Rattle.std.specs.Coded.{codes};
+
     ghost Value = { SoloDesk };
+
+    ghost coded = { Prim.hlevel (codes, json.the_row.coded, cond.the_row.coded) };
 
     ghost view = { λ it. record { seat = it.solo; held = it.held; turns = it.turns } };
 

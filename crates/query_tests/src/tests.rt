@@ -1,0 +1,6 @@
+mod filters;
+mod matches;
+mod pushed;
+mod readings;
+mod refusals;
+mod words;

@@ -80,7 +80,7 @@ stands_at key (row ∷ rows) entry (suc i) rise is parts = cases (bytes_eq key r
     cases true e later =
         absurd (omega (arith, ltb-true _ _ (parts.0 0 row (omega arith) (omega arith)), same_entry (entry_of row) entry (rw e at is)))
     cases false e later =
-        let it : IsFirst (has_key key) rows i = later (and-both _ _ rise).1 (rw e at is) (
+        let it : IsFirst (has_key key) rows i = later (and-both (below row.place (entries_of rows)) (places_rise (entries_of rows)) rise).1 (rw e at is) (
           λ k d low high. parts.0 (suc k) d (omega arith) (omega (arith, high)),
           λ k d low high. parts.1 (suc k) d (omega (arith, low)) (omega (arith, high)),
         ) in

@@ -1,15 +1,16 @@
 -- The first of a list that passes a test, by its place.
-use Rattle.std.proofs.Common.{◌≡◌, ℕ, zero, suc, ◌<◌, ◌≤◌, Bool, true, false, cond, ltb, List, [], ◌∷◌, ◌++◌, map, length, get_or, set, refl}
+use Rattle.std.proofs.Common.{◌≡◌, ℕ, zero, suc, ◌<◌, ◌≤◌, Bool, true, false, ◌||◌, cond, ltb, List, [], ◌∷◌, ◌++◌, map, length, get_or, set, refl}
 use Rattle.std.proofs.Common.{sym, ap, subst, arith}
-use Rattle.std.specs.Prelude.{None, Some}
+use Rattle.std.specs.Prelude.{Option, None, Some}
 use Rattle.std.specs.List.{list_any, position, position_or_len, remove}
 use Rattle.std.proofs.lemmas.Bool.{ltb-false}
 use Rattle.std.proofs.lemmas.List.{map-id}
 use Rattle.std.proofs.lemmas.List.Quantifiers.{position-Some}
 use Rattle.outside.specs.declared.kept.KeptRow.{KeptRow}
 use Rattle.outside.specs.Changes.{with_first, without_first, has_key, put_row, cut_row}
+use Rattle.outside.specs.Rows.{IsFirst, FirstAt}
 
--- it stands there
+-- what is changed where the first that passes stands there
 pub record Stands {A : Type 0} (test : A → Bool) (xs : List A) (place : ℕ) : Type 0 where
   pub within : place < length xs
   pub passes : (d : A) → test (get_or xs place d) ≡ true
@@ -17,7 +18,7 @@ pub record Stands {A : Type 0} (test : A → Bool) (xs : List A) (place : ℕ) :
   pub out : without_first test xs ≡ remove xs place
   pub over : (change : A → A) (d : A) → with_first test change xs ≡ set xs place (change (get_or xs place d))
 
--- none passes
+-- the same where none passes
 pub record Lacks {A : Type 0} (test : A → Bool) (xs : List A) : Type 0 where
   pub there : list_any test xs ≡ false
   pub out : without_first test xs ≡ xs
@@ -87,26 +88,44 @@ module _ {A B : Type 0} (view : A → B) (test : B → Bool) where
   lacks xs is =
       none-at xs (ltb-false _ _ (is-none (ltb (position_or_len passes xs) (length xs)) (position_or_len passes xs) (sym is)))
 
-module _ {A : Type 0} (test : A → Bool) (xs : List A) where
-  pub stands-itself : (place : ℕ) → Some place ≡ position test xs → Stands test xs place
-  stands-itself place is = subst (λ ys. Stands test ys place) (map-id xs) (stands (λ x. x) test xs place is)
+module _ {A : Type 0} (test : A → Bool) where
+  -- the first place that is found is that of the first
+  pub firsts : (xs : List A) (found : Option ℕ) → found ≡ position test xs → FirstAt test xs found
+  firsts xs None is = subst (λ ys. list_any test ys ≡ false) (map-id xs) (lacks (λ x. x) test xs is).there
+  firsts xs (Some place) is =
+      let at = λ (d : A). position-Some test xs place d (sym is) in
+      record {
+        within = (subst (λ ys. Stands test ys place) (map-id xs) (stands (λ x. x) test xs place is)).within;
+        passes = λ d. (at d).1;
+        before = λ k d low. (at d).2 k low;
+      }
 
-  pub lacks-itself : None ≡ position test xs → Lacks test xs
-  lacks-itself is = subst (λ ys. Lacks test ys) (map-id xs) (lacks (λ x. x) test xs is)
+  first-stands : (xs : List A) (place : ℕ) → IsFirst test xs place → Stands test xs place
+  unfolding passes
+  first-stands xs place it = subst (λ ys. Stands test ys place) (map-id xs) (found-at (λ x. x) test xs place it.within it.passes it.before)
+
+  none-lacks : (xs : List A) → list_any test xs ≡ false → without_first test xs ≡ xs
+  none-lacks [] none = refl
+  none-lacks (x ∷ xs) none = cases (test x) refl none (none-lacks xs)
+    where
+      cases : (here : Bool) → test x ≡ here → (here || list_any test xs) ≡ false → (list_any test xs ≡ false → without_first test xs ≡ xs)
+          → without_first test (x ∷ xs) ≡ x ∷ xs
+      cases true e none later = absurd cc
+      cases false e none later = rw e (ap (λ rest. x ∷ rest) (later none))
 
 -- a row is put and cut by the place of its key
-pub put_there : (row : KeptRow) (rows : List KeptRow) (place : ℕ) (d : KeptRow) → Some place ≡ position (has_key row.key) rows
+pub put_there : (row : KeptRow) (rows : List KeptRow) (place : ℕ) (d : KeptRow) → IsFirst (has_key row.key) rows place
     → set rows place (record (get_or rows place d) { text = row.text }) ≡ put_row row rows
 put_there row rows place d is =
-    let it = stands-itself (has_key row.key) rows place is in
+    let it = first-stands (has_key row.key) rows place is in
     rw it.there (sym (it.over (λ old. record old { text = row.text }) d))
 
-pub put_last : (row : KeptRow) (rows : List KeptRow) → None ≡ position (has_key row.key) rows → rows ++ row ∷ [] ≡ put_row row rows
-put_last row rows is = rw (lacks-itself (has_key row.key) rows is).there refl
+pub put_last : (row : KeptRow) (rows : List KeptRow) → list_any (has_key row.key) rows ≡ false → rows ++ row ∷ [] ≡ put_row row rows
+put_last row rows none = rw none refl
 
-pub cut_there : (key : List ℕ) (rows : List KeptRow) (place : ℕ) → Some place ≡ position (has_key key) rows
+pub cut_there : (key : List ℕ) (rows : List KeptRow) (place : ℕ) → IsFirst (has_key key) rows place
     → remove rows place ≡ cut_row key rows
-cut_there key rows place is = sym (stands-itself (has_key key) rows place is).out
+cut_there key rows place is = sym (first-stands (has_key key) rows place is).out
 
-pub cut_nothing : (key : List ℕ) (rows : List KeptRow) → None ≡ position (has_key key) rows → rows ≡ cut_row key rows
-cut_nothing key rows is = sym (lacks-itself (has_key key) rows is).out
+pub cut_nothing : (key : List ℕ) (rows : List KeptRow) → list_any (has_key key) rows ≡ false → rows ≡ cut_row key rows
+cut_nothing key rows none = sym (none-lacks (has_key key) rows none)

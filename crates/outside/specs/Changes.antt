@@ -19,7 +19,7 @@ without_first test [] = []
 without_first test (x ∷ xs) = if test x then xs else x ∷ without_first test xs
 
 abbrev pub has_key : List ℕ → KeptRow → Bool
-has_key key row = bytes_eq row.key key
+has_key key row = bytes_eq key row.key
 
 abbrev pub has_number : ℕ → KeptTable → Bool
 has_number number table = table.number == number

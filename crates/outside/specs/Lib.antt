@@ -2,6 +2,7 @@ pub mod Told
 pub mod Causes
 pub mod Counts
 pub mod Changes
+pub mod Rows
 pub mod Tables
 pub mod Source
 pub mod MemoryKeeper

@@ -39,7 +39,7 @@ impl Archive {
     {
         let mut tables = Vec::new(alloc);
         for table in kept.tables.into_vec() {
-            tables.push(Table::of(table))?;
+            tables.push(Table::of(alloc, table))?;
         }
         Ok(Archive { alloc, tables })
     }

@@ -2,6 +2,7 @@
 #![tactic(auto)]
 
 mod archive;
+mod index;
 mod keeper;
 mod kept;
 mod link;

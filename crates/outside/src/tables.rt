@@ -27,7 +27,7 @@ pub enum Step {
 }
 
 impl Table {
-    pub fn of(kept: KeptTable) -> Table
+    pub fn of(alloc: Global, kept: KeptTable) -> Table
         ensures { kept_table result ≡ kept }
     {
         let KeptTable {
@@ -38,7 +38,7 @@ impl Table {
         Table {
             number,
             space,
-            rows: Rows::of(rows),
+            rows: Rows::of(alloc, rows),
         }
     }
 
@@ -179,7 +179,7 @@ fn make(tables: &mut Vec<Table>, step: Step)
         Step::Cut(number, key) => {
             if let Some(place) = place_of(tables, number) {
                 let table = &mut tables[place];
-                table.rows.cut(key.as_slice());
+                table.rows.cut(&key);
             }
         }
     }

@@ -58,10 +58,9 @@ returns-in-Put-clause-tables c =
 pub returns-in-Some-place_of-2-clause-tables : goal.returns-in-Some-place_of-2-clause-tables
 returns-in-Some-place_of-2-clause-tables c =
     let is = rw c.deref-in-Cut.ensures.value at c.in-Some-place_of-2.ensures in
-    let rows = rw c.as_slice.ensures at c.cut.ensures.rows in
     let table = c.index_mut-table-in-Some-place_of-2 in
     rw c.in-Cut.is (over c.in-Cut.number (cut_row c.in-Cut.key) c.args.tables.now.items c.in-Some-place_of-2.place
-    table.result.now c.cut.new.self is (sym table.ensures.value) rows)
+    table.result.now c.cut.new.self is (sym table.ensures.value) c.cut.ensures.rows)
 
 pub returns-in-Some-place_of-2-clause-room : goal.returns-in-Some-place_of-2-clause-room
 returns-in-Some-place_of-2-clause-room c = λ rest ready room.

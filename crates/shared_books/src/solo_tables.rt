@@ -19,7 +19,6 @@ pub struct SoloTables<K: Keeper + Drop> {
 impl<K: Keeper + Drop> Model for SoloTables<K> {
     ghost use Rattle.shared_books.specs.Desks.{SoloDesk};
     ghost use Rattle.table_words.specs.Sound.{Sound};
-
     ghost use Rattle.jsonb_contain.specs.contracts.value.Json as json;
     ghost use Rattle.jsonb_contain.specs.contracts.cond.Cond as cond;
     ghost use Rattle.std.specs.Coded.{codes};

@@ -137,7 +137,7 @@ committed s t es added live none left faults = record { replied = (rw (live, num
 pub insert-ran : (live : List Live) (next n i : ℕ) (old : Live) (table : Listed) (row : Row) (before now : ℕ) → Stands n live i → old ≡ get_or live i old
     → Changed live next i old table [] (Some row) → has_key row.key old.table.rows ≡ false → next ≤ 9223372036854775807 → now ≡ before
     → Ran before now (record { live = all_shown live; next = next }) (record { live = all_shown (set live i (record { space = old.space; table = table })); next = next + 1 })
-      (call.Insert n row) (reply.Inserted n next)
+    (call.Insert n row) (reply.Inserted n next)
 insert-ran live next n i old table row before now at is came none le same =
     let l = landed live next n i old table [] (Some row) at is came in
     rw (same, l.number, l.over) (inserted (record { live = all_shown live; next = next }) (shown old) row l.there none (not-spent next le) before)
@@ -145,7 +145,7 @@ insert-ran live next n i old table row before now at is came none le same =
 pub commit-ran : (live : List Live) (next n i stamp : ℕ) (old : Live) (table : Listed) (es : List Edit) (added : Option Row) (before now : ℕ) → Stands n live i → old ≡ get_or live i old
     → Changed live next i old table es added → stamp ≡ old.table.stamp → has_added added old.table.rows ≡ false → next ≤ 9223372036854775807 → now ≡ before
     → Ran before now (record { live = all_shown live; next = next }) (record { live = all_shown (set live i (record { space = old.space; table = table })); next = next + 1 })
-      (call.Commit n stamp es added) (reply.Done next)
+    (call.Commit n stamp es added) (reply.Done next)
 commit-ran live next n i stamp old table es added before now at is came stamped none le same =
     let l = landed live next n i old table es added at is came in
     rw (same, l.number, l.over, stamped) (committed (record { live = all_shown live; next = next }) (shown old) es added l.there none (not-spent next le) before)

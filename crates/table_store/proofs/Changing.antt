@@ -131,8 +131,8 @@ rows-for n place es (Some row) ps distinct none =
 -- the keeper has what is kept of the changed table
 pub kept-for : (t : Table) (place : ℕ) (es : List Edit) (added : Option Row) (ts : List Table) → numbered t.number ts ≡ Some t → Distinct t.rows → has_added added t.rows ≡ false
     → all_changed (changes_for t.number place t.rows es added) (kept_tables ts)
-      ≡ kept_tables (put (record t { stamp = place; rows = edited es t.rows ++ added_at place added }) ts)
+    ≡ kept_tables (put (record t { stamp = place; rows = edited es t.rows ++ added_at place added }) ts)
 kept-for t place es added ts live distinct none =
     all-of t.number (changes_for t.number place t.rows es added) (kept_tables ts) (are-for t.number place t.rows es added)
     ∙ with-put t place (edited es t.rows ++ added_at place added) (rows_changed (changes_for t.number place t.rows es added)) ts live
-      (rows-for t.number place es added t.rows distinct none)
+    (rows-for t.number place es added t.rows distinct none)

@@ -97,7 +97,7 @@ module _ (live : List Live) (next : ℕ) (space : Space) (none : named space (al
       let fresh : Listed = record { number = next; stamp = next; rows = [] } in
       told-changed told new (change.Create next kept ∷ []) made s (record { live = all_shown after; next = next + 1 }) goes tells refl
       (ap (λ (x : Space). kept_tables (all_shown live) ++ record { number = next; space = x; rows = [] } ∷ []) copied
-       ∙ create-there (shown (record { space = space; table = fresh })) (all_shown live) ∙ ap kept_tables (sym (list-last live after space table fresh is came)))
+      ∙ create-there (shown (record { space = space; table = fresh })) (all_shown live) ∙ ap kept_tables (sym (list-last live after space table fresh is came)))
 
   pub create-refused : (before now : ℕ) (refused : KeepError) → length live < 10000 → next ≤ 9223372036854775807
       → HasCause before now (failure_of {T = Unit {0}} (Err refused)) → Ran before now s s (call.Create space) (refusal_of refused)
@@ -170,7 +170,7 @@ with-tells live after next space copied row put table told new made sound own is
     (subst (λ (cs : List Change). Goes told new cs (Ok made)) same goes) tells
     (ap (λ c. change.Create next space ∷ c ∷ []) (plain-put next (next + 1) row own))
     (with-new next space [] (put_row (kept_row (record { place = next + 1; row = row }))) (all_shown live) (fresh-number next (all_shown live) sound.tables)
-     ∙ create-there (shown (record { space = space; table = one })) (all_shown live) ∙ ap kept_tables (sym (list-last live after space table one is came)))
+    ∙ create-there (shown (record { space = space; table = one })) (all_shown live) ∙ ap kept_tables (sym (list-last live after space table one is came)))
 
 -- a table that was made, given a row and stamped
 pub made-table : (a b d : Listed) (n place : ℕ) (row : Row) → a ≡ record { number = n; stamp = n; rows = [] } → b ≡ record a { rows = a.rows ++ record { place = place; row = row } ∷ [] }

@@ -36,6 +36,7 @@ drop-ran live after next n space before now found list same = rw (same, list) (r
   where
     s : Tables
     s = record { live = all_shown live; next = next }
+
     went : (o : Option Table) → o ≡ Some found.0 → (drops s o).tables ≡ record { live = without n (all_shown live); next = next }
     went None e = absurd cc
     went (Some t) e = let is : t ≡ found.0 = cc in ap (λ k. record { live = without k (all_shown live); next = next }) (ap (λ (x : Table). x.number) is ∙ found.2)
@@ -102,6 +103,7 @@ stays-first t db (u ∷ us) ks apart = cases (bytes_eq db u.space.db) refl (λ r
   where
     other : (t.number == u.number) ≡ false
     other = number-swaps t.number u.number ∙ number-apart u.number t.number apart.1
+
     cases : (b : Bool) → bytes_eq db u.space.db ≡ b
         → ((rest : List KeptTable) → all_changed (drops_of db us) (kept_table t ∷ rest) ≡ kept_table t ∷ all_changed (drops_of db us) rest)
         → all_changed (drops_of db (u ∷ us)) (kept_table t ∷ ks) ≡ kept_table t ∷ all_changed (drops_of db (u ∷ us)) ks

@@ -104,6 +104,7 @@ plain-put row rows = cases (list_any (keeping.has_key row.key) rows) refl
   where
     any : list_any (keeping.has_key row.key) (map plain_row rows) ≡ list_any (keeping.has_key row.key) rows
     any = any-first plain_row (keeping.has_key row.key) (keeping.has_key row.key) (λ r. refl) rows
+
     cases : (b : Bool) → list_any (keeping.has_key row.key) rows ≡ b → map plain_row (put_row row rows) ≡ put_row (plain_row row) (map plain_row rows)
     cases true e = rw (any, e) (map-with plain_row (keeping.has_key row.key) (keeping.has_key row.key) (λ r. refl)
         (λ (old : KeptRow). record old { text = row.text }) (λ (old : KeptRow). record old { text = plain_text row.text }) (λ r. refl) rows)

@@ -9,12 +9,7 @@ use table_rows::{Row, Table};
 use table_words::Edit;
 
 /// The change that puts a row into a table.
-pub(crate) fn put_of(
-    alloc: Global,
-    number: u64,
-    place: u64,
-    row: &Row,
-) -> Result<Change, NoMemory>
+pub(crate) fn put_of(alloc: Global, number: u64, place: u64, row: &Row) -> Result<Change, NoMemory>
     ensures { IfOk result (λ it. it ≡ put_of number place row.now) }
 {
     let key = row.key.copy(alloc)?;

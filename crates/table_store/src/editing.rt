@@ -110,8 +110,8 @@ fn edit_and_add<K: Keeper>(
     requires absent { has_key row.key table.old.rows ≡ false }
     requires above { above stamp table.old.rows ≡ true }
     ensures ok { OnOk result (table.new ≡ record table.old {
-        stamp = stamp;
-        rows = edited edits table.old.rows ++ record { place = stamp; row = row } ∷ [];
+      stamp = stamp;
+      rows = edited edits table.old.rows ++ record { place = stamp; row = row } ∷ [];
     }) }
     ensures err { OnErr result (table.new ≡ table.old) }
     ensures told { Goes (K.told keeper.old) (K.told keeper.new)
@@ -158,8 +158,8 @@ fn change_rows<K: Keeper>(
     requires absent { has_added added table.old.rows ≡ false }
     requires above { above stamp table.old.rows ≡ true }
     ensures ok { OnOk result (table.new ≡ record table.old {
-        stamp = stamp;
-        rows = edited edits table.old.rows ++ added_at stamp added;
+      stamp = stamp;
+      rows = edited edits table.old.rows ++ added_at stamp added;
     }) }
     ensures err { OnErr result (table.new ≡ table.old) }
     ensures told { Goes (K.told keeper.old) (K.told keeper.new)
@@ -210,7 +210,14 @@ impl<K: Keeper> LiveTables<K> {
             return TableReply::Spent;
         }
         let given = self.next;
-        match change_rows(self.alloc, &mut self.keeper, &mut kept.table, given, edits, added) {
+        match change_rows(
+            self.alloc,
+            &mut self.keeper,
+            &mut kept.table,
+            given,
+            edits,
+            added,
+        ) {
             Ok(()) => {
                 self.next += 1;
                 TableReply::Done(given)

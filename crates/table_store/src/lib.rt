@@ -10,7 +10,6 @@ mod finding;
 mod inserting;
 mod listing;
 mod live;
-
 mod reading;
 mod tables;
 

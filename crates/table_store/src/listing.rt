@@ -59,7 +59,6 @@ fn databases(alloc: Global, live: &[Live]) -> Result<List<Text>, NoMemory>
     Ok(names)
 }
 
-
 impl<K> LiveTables<K> {
     pub(crate) fn list_tables(&self, db: &Text) -> TableReply
         ensures ran { (faults : ℕ) → Ran faults faults (state_of self.now) (state_of self.now) (call.ListTables db.now) result }

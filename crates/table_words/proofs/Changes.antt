@@ -80,10 +80,10 @@ apart-last v t (u ∷ us) apart away less = (apart.0, apart.1, apart-last v t us
 pub sound-new : (n m : ℕ) (t : Table) (ts : List Table) → SoundTables n ts → named t.space ts ≡ None → n ≤ t.number → n ≤ m → SoundTable m t → SoundTables m (ts ++ t ∷ [])
 sound-new n m t [] sound none over le new = (new, tt, tt)
 sound-new n m t (v ∷ vs) sound none over le new = let first = not-first t.space v vs none in let less = (sound.0).number in (
-    table-later n m v le sound.0,
-    apart-last v t vs sound.1 (space-swap t.space v.space first.0) (omega (arith, over, less)),
-    sound-new n m t vs sound.2 first.1 over le new,
-  )
+  table-later n m v le sound.0,
+  apart-last v t vs sound.1 (space-swap t.space v.space first.0) (omega (arith, over, less)),
+  sound-new n m t vs sound.2 first.1 over le new,
+)
 
 -- a table went
 apart-without : (v : Table) (n : ℕ) (vs : List Table) → IsApart v vs → IsApart v (without n vs)

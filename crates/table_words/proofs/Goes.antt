@@ -63,9 +63,12 @@ goes-changed s t edits added sound found are is none =
         });
         few = rw (length-put _ s.live) sound.few;
       };
-      kept = record { next = omega arith; table = λ n w there less. found-put n _ w s.live there (λ same. let late = ap (λ (x : Table). x.stamp) same in absurd (omega (arith, late, less))) (λ old. old);
+      kept = record {
+        next = omega arith;
+        table = λ n w there less. found-put n _ w s.live there (λ same. let late = ap (λ (x : Table). x.stamp) same in absurd (omega (arith, late, less))) (λ old. old);
         space = λ n w there less. found-put n _ w s.live there
-            (λ same. (t, subst (λ k. numbered k s.live ≡ Some t) (ap (λ (x : Table). x.number) same ∙ has-number n w _ there) found, ap (λ (x : Table). x.space) same)) (λ old. (w, old, refl)) };
+            (λ same. (t, subst (λ k. numbered k s.live ≡ Some t) (ap (λ (x : Table). x.number) same ∙ has-number n w _ there) found, ap (λ (x : Table). x.space) same)) (λ old. (w, old, refl));
+      };
     }
 
 -- there is room for one table more
@@ -79,8 +82,11 @@ goes-created space s sound valid room none = record {
         (record { rows = tt; number = omega arith; stamp = omega arith; space = valid });
     few = one-more s _ room;
   };
-  kept = record { next = omega arith; table = λ n w there less. found-last n _ w s.live there (λ same. let late = ap (λ (x : Table). x.stamp) same in absurd (omega (arith, late, less))) (λ old. old);
-    space = λ n w there less. found-last n _ w s.live there (λ same. let late = ap (λ (x : Table). x.number) same ∙ has-number n w _ there in absurd (omega (arith, late, less))) (λ old. (w, old, refl)) };
+  kept = record {
+    next = omega arith;
+    table = λ n w there less. found-last n _ w s.live there (λ same. let late = ap (λ (x : Table). x.stamp) same in absurd (omega (arith, late, less))) (λ old. old);
+    space = λ n w there less. found-last n _ w s.live there (λ same. let late = ap (λ (x : Table). x.number) same ∙ has-number n w _ there in absurd (omega (arith, late, less))) (λ old. (w, old, refl));
+  };
 }
 
 goes-created-with : (space : Space) (row : Row) (s : Tables) → Sound s → is_valid space ≡ true → IsSound row → is_full s ≡ false → named space s.live ≡ None → Goes s (created_with space row s)
@@ -90,8 +96,11 @@ goes-created-with space row s sound valid is room none = record {
         (record { rows = (is, refl, omega arith, tt); number = omega arith; stamp = omega arith; space = valid });
     few = one-more s _ room;
   };
-  kept = record { next = omega arith; table = λ n w there less. found-last n _ w s.live there (λ same. let late = ap (λ (x : Table). x.stamp) same in absurd (omega (arith, late, less))) (λ old. old);
-    space = λ n w there less. found-last n _ w s.live there (λ same. let late = ap (λ (x : Table). x.number) same ∙ has-number n w _ there in absurd (omega (arith, late, less))) (λ old. (w, old, refl)) };
+  kept = record {
+    next = omega arith;
+    table = λ n w there less. found-last n _ w s.live there (λ same. let late = ap (λ (x : Table). x.stamp) same in absurd (omega (arith, late, less))) (λ old. old);
+    space = λ n w there less. found-last n _ w s.live there (λ same. let late = ap (λ (x : Table). x.number) same ∙ has-number n w _ there in absurd (omega (arith, late, less))) (λ old. (w, old, refl));
+  };
 }
 
 goes-inserts : (row : Row) (s : Tables) (t : Table) → Sound s → IsSound row → numbered t.number s.live ≡ Some t → Goes s (inserts row s t).tables

@@ -92,8 +92,8 @@ abbrev pub commits : ℕ → List Edit → Option Row → Tables → Option Tabl
 commits stamp edits added s None = same reply.Gone s
 commits stamp edits added s (Some t) =
     if stamp == t.stamp then
-        refused s ((has_added added t.rows, reply.Duplicate) ∷ (are_spent 1 s, reply.Spent) ∷ [])
-        (record { reply = reply.Done s.next; tables = changed t edits added s })
+    refused s ((has_added added t.rows, reply.Duplicate) ∷ (are_spent 1 s, reply.Spent) ∷ [])
+    (record { reply = reply.Done s.next; tables = changed t edits added s })
     else same (reply.Moved t.stamp) s
 
 abbrev pub creates : Space → Tables → Option Table → Meant

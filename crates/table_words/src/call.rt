@@ -15,13 +15,25 @@ pub enum Edit {
 #[derive(Drop)]
 pub enum TableCall {
     /// The rows of the space's table that meet the condition.
-    SelectNamed { space: Space, cond: Cond },
+    SelectNamed {
+        space: Space,
+        cond: Cond,
+    },
     /// The rows of the table that meet the condition.
-    Select { table: u64, cond: Cond },
+    Select {
+        table: u64,
+        cond: Cond,
+    },
     /// To add a row to the space's table, which is created where there is none.
-    InsertNamed { space: Space, row: Row },
+    InsertNamed {
+        space: Space,
+        row: Row,
+    },
     /// To add a row to the table.
-    Insert { table: u64, row: Row },
+    Insert {
+        table: u64,
+        row: Row,
+    },
     /// To make the edits in order, and then to add a row, where the table has that stamp still.
     Commit {
         table: u64,
@@ -30,13 +42,21 @@ pub enum TableCall {
         added: Option<Row>,
     },
     /// To create the space's table.
-    Create { space: Space },
+    Create {
+        space: Space,
+    },
     /// To drop the space's table.
-    Drop { space: Space },
+    Drop {
+        space: Space,
+    },
     /// To drop all tables of the database.
-    DropDatabase { db: Text },
+    DropDatabase {
+        db: Text,
+    },
     /// The names of the database's collections.
-    ListTables { db: Text },
+    ListTables {
+        db: Text,
+    },
     /// The names of the databases.
     ListDatabases,
 }
@@ -59,7 +79,10 @@ pub enum TableReply {
     /// A row has the key of the row that was to be added.
     Duplicate,
     /// The row was added, or the table created: the table's number, and its stamp now.
-    Inserted { table: u64, stamp: u64 },
+    Inserted {
+        table: u64,
+        stamp: u64,
+    },
     /// The commit was made: the table's stamp now.
     Done(u64),
     /// So many tables were dropped.

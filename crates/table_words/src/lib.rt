@@ -9,7 +9,5 @@ mod state;
 
 pub use call::{Edit, TableCall, TableReply};
 pub use desk::TableDesk;
-pub use laws::{
-    a_number_names_one_space, a_stamp_tells_the_rows, tables_of_a_history_are_sound,
-};
+pub use laws::{a_number_names_one_space, a_stamp_tells_the_rows, tables_of_a_history_are_sound};
 pub use state::{TableState, TablesState};

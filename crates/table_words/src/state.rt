@@ -1,6 +1,6 @@
 use bson_values::Space;
-use table_rows::Placed;
 use std::collections::LinkedList;
+use table_rows::Placed;
 
 /// A live table, as clauses see it. No value of it is made.
 #[derive(Drop)]

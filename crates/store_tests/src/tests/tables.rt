@@ -48,32 +48,21 @@ fn texts(alloc: Global, table: &Table, cond: &Cond) -> Result<String, NoMemory> 
     Ok(texts)
 }
 
-fn key_is(alloc: Global, key: &[u8]) -> Result<Cond, NoMemory> {
-    Ok(Cond::KeyIs(Bytes::of(alloc, key)?))
-}
-
-fn has_two(alloc: Global) -> Result<Cond, NoMemory> {
-    Ok(Cond::AtKey(Text::of(alloc, "a")?, Json::Whole(2)))
-}
-
-#[test]
-fn rows_are_found_by_key(rt: HostRuntime) -> Result<(), Fail> {
-    let alloc = rt.alloc();
+fn found(alloc: Global, cond: &Cond) -> Result<String, TextRefused> {
     let table = filled(alloc)?;
-    let cond = key_is(alloc, b"eve")?;
-    let found = texts(alloc, &table, &cond)?;
-    assert_eq!(rt; found.as_str(), r#"{"a":1,"b":2}"#);
-    Ok(())
+    Ok(texts(alloc, &table, cond)?)
 }
 
-#[test]
-fn rows_are_found_by_what_is_in_them(rt: HostRuntime) -> Result<(), Fail> {
-    let alloc = rt.alloc();
-    let table = filled(alloc)?;
-    let cond = has_two(alloc)?;
-    let found = texts(alloc, &table, &cond)?;
-    assert_eq!(rt; found.as_str(), r#"{"a":[1,2]}"#);
-    Ok(())
+/// The row of a key.
+fn by_key(alloc: Global) -> Result<String, TextRefused> {
+    let key = Bytes::of(alloc, b"eve")?;
+    found(alloc, &Cond::KeyIs(key))
+}
+
+/// The rows that have 2 under `a`.
+fn by_value(alloc: Global) -> Result<String, TextRefused> {
+    let name = Text::of(alloc, "a")?;
+    found(alloc, &Cond::AtKey(name, Json::Whole(2)))
 }
 
 /// The middle row has another text, and the first is gone.
@@ -86,12 +75,29 @@ fn changed(alloc: Global) -> Result<Table, TextRefused> {
     Ok(table)
 }
 
+/// All rows that are left.
+fn left(alloc: Global) -> Result<String, TextRefused> {
+    let table = changed(alloc)?;
+    Ok(texts(alloc, &table, &Cond::All(List::new(alloc)))?)
+}
+
+#[test]
+fn rows_are_found_by_key(rt: HostRuntime) -> Result<(), Fail> {
+    let found = by_key(rt.alloc())?;
+    assert_eq!(rt; found.as_str(), r#"{"a":1,"b":2}"#);
+    Ok(())
+}
+
+#[test]
+fn rows_are_found_by_what_is_in_them(rt: HostRuntime) -> Result<(), Fail> {
+    let found = by_value(rt.alloc())?;
+    assert_eq!(rt; found.as_str(), r#"{"a":[1,2]}"#);
+    Ok(())
+}
+
 #[test]
 fn a_row_that_is_replaced_keeps_its_place(rt: HostRuntime) -> Result<(), Fail> {
-    let alloc = rt.alloc();
-    let table = changed(alloc)?;
-    let found = texts(alloc, &table, &Cond::All(List::new(alloc)))?;
-    assert_eq!(rt; found.as_str(), r#"{"c":3}{"a":1,"b":2}"#);
-    assert_eq!(rt; table.len(), 2);
+    let left = left(rt.alloc())?;
+    assert_eq!(rt; left.as_str(), r#"{"c":3}{"a":1,"b":2}"#);
     Ok(())
 }

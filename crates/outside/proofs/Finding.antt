@@ -75,12 +75,14 @@ stands_at key (row ∷ rows) entry zero rise is parts = cases (bytes_eq key row.
 stands_at key (row ∷ rows) entry (suc i) rise is parts = cases (bytes_eq key row.key) refl (stands_at key rows entry i)
   where
     cases : (here : Bool) → bytes_eq key row.key ≡ here
-        → (places_rise (entries_of rows) ≡ true → found key (entries_of rows) ≡ Some entry → Parts entry.place rows i → IsFirst (has_key key) rows i)
+        → (places_rise (entries_of rows) ≡ true → found key (entries_of rows) ≡ Some entry → Parts entry.place rows i
+        → IsFirst (has_key key) rows i)
         → IsFirst (has_key key) (row ∷ rows) (suc i)
     cases true e later =
         absurd (omega (arith, ltb-true _ _ (parts.0 0 row (omega arith) (omega arith)), same_entry (entry_of row) entry (rw e at is)))
     cases false e later =
-        let it : IsFirst (has_key key) rows i = later (and-both (below row.place (entries_of rows)) (places_rise (entries_of rows)) rise).1 (rw e at is) (
+        let rest = and-both (below row.place (entries_of rows)) (places_rise (entries_of rows)) rise in
+        let it : IsFirst (has_key key) rows i = later rest.1 (rw e at is) (
           λ k d low high. parts.0 (suc k) d (omega arith) (omega (arith, high)),
           λ k d low high. parts.1 (suc k) d (omega (arith, low)) (omega (arith, high)),
         ) in
@@ -112,8 +114,8 @@ removed_entries key (row ∷ rows) = cases (bytes_eq key row.key) refl (removed_
     cases false e later = rw e (ap (λ rest. entry_of row ∷ rest) later)
 
 -- what is left of an index
-pub left : (key : List ℕ) (rows : List KeptRow) (old new it : List Known) → old ≡ entries_of rows → new ≡ removed key old → Some new ≡ Some it
-    → it ≡ entries_of (without_first (has_key key) rows)
+pub left : (key : List ℕ) (rows : List KeptRow) (old new it : List Known) → old ≡ entries_of rows → new ≡ removed key old
+    → Some new ≡ Some it → it ≡ entries_of (without_first (has_key key) rows)
 left key rows old new it is without same =
     let one : it ≡ new = cc in
     one ∙ (without ∙ (ap (removed key) is ∙ removed_entries key rows))

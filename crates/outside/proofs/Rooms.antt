@@ -153,7 +153,8 @@ pub record Making (all : List Change) (before : List KeptTable) (ts : Vec Table)
   pub ready : All (IsReady all) left
   pub fewer : (number : ℕ) → puts_to number (map change_of left) ≤ puts_to number all
 
-module _ (all : List Change) (before : List KeptTable) (ts : Vec Table) (it : Step) (left : List Step) (making : Making all before ts (it ∷ left)) where
+module _ (all : List Change) (before : List KeptTable) (ts : Vec Table) (it : Step) (left : List Step)
+    (making : Making all before ts (it ∷ left)) where
   pub made_one : (new : Vec Table) → kept_tables new.items ≡ changed (change_of it) (kept_tables ts.items)
       → ((rest : List Change) → IsReady rest it → HasRoom ts (change_of it ∷ rest) → HasRoom new rest) → Making all before new left
   made_one new made room =

@@ -65,6 +65,7 @@ pub fn place_in(index: &Index, rows: &[KeptRow], key: &Bytes) -> Option<usize>
     requires { index.now ≡ entries_of rows.now }
     ensures { FirstAt (has_key key.now) rows.now result }
 {
+    // With its length an index tells that its places rise.
     let _len = index.len();
     let entry = index.get(key)?;
     let place = entry.place;

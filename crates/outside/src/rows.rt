@@ -1,4 +1,4 @@
-ghost use Rattle.std.specs.Prelude.{◌≡◌, ◌≤◌, ◌+◌, [], position, IfOk, OnOk};
+ghost use Rattle.std.specs.Prelude.{◌≡◌, ◌≤◌, ◌+◌, [], IfOk, OnOk};
 ghost use Rattle.outside.specs.Changes.{has_key, put_row, cut_row};
 ghost use Rattle.outside.specs.Rows.{FirstAt};
 
@@ -73,8 +73,8 @@ impl Rows {
         }
     }
 
-    #[tactic(auto, using(crate::proofs::Places::put_there, crate::proofs::Places::put_last))]
     /// Puts a row under its key. It needs no memory, since an index that finds none is given up.
+    #[tactic(auto, using(crate::proofs::Places::put_there, crate::proofs::Places::put_last))]
     pub fn put(&mut self, row: KeptRow)
         requires { 1 ≤ self.old.spare }
         ensures rows { self.new.items ≡ put_row row self.old.items }
@@ -93,8 +93,8 @@ impl Rows {
         }
     }
 
-    #[tactic(auto, using(crate::proofs::Places::cut_there, crate::proofs::Places::cut_nothing))]
     /// Takes the row of a key out.
+    #[tactic(auto, using(crate::proofs::Places::cut_there, crate::proofs::Places::cut_nothing))]
     pub fn cut(&mut self, key: &Bytes)
         ensures rows { self.new.items ≡ cut_row key.now self.old.items }
         ensures spare { self.old.spare ≤ self.new.spare }

@@ -7,4 +7,5 @@ pub loop-step-preserved : goal.loop-step-preserved
 loop-step-preserved c =
     let next : into_iter_items c.loop-step.steps ≡ c.in-Some.step ∷ into_iter_items c.next.new.self = search rules in
     let making = rw next at c.loop-step.invariant in
-    made_one _ _ c.loop-step.tables c.in-Some.step (into_iter_items c.next.new.self) making c.make.new.tables c.make.ensures.tables c.make.ensures.room
+    made_one _ _ c.loop-step.tables c.in-Some.step (into_iter_items c.next.new.self) making
+    c.make.new.tables c.make.ensures.tables c.make.ensures.room

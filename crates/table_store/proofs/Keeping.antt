@@ -15,25 +15,17 @@ use Rattle.table_rows.specs.declared.row.Row.{Row}
 use Rattle.table_rows.specs.declared.listed.Placed.{Placed}
 use Rattle.table_rows.specs.Rows.{has_key, replaced, removed}
 use Rattle.table_words.specs.Tables.{Table, Tables, numbered, put, without}
-use Rattle.table_words.proofs.Rows.{bytes-same, bytes-swap}
 use Rattle.table_store.specs.Kept.{kept_row, kept_table, kept_tables, plain_text, plain_row, plain_table, plain_change, Tells}
 use Rattle.table_store.proofs.Firsts.{any-first, map-without, map-with}
 
 pub number-swaps : (a b : ℕ) → (a == b) ≡ (b == a)
 number-swaps a b = grind (arith, nat_tests)
 
-pub bytes-swaps : (a b : List ℕ) → bytes_eq a b ≡ bytes_eq b a
-bytes-swaps a b = cases (bytes_eq a b) refl
-  where
-    cases : (x : Bool) → bytes_eq a b ≡ x → bytes_eq a b ≡ bytes_eq b a
-    cases true e = let same = (bytes_eq-Decides a b).0 e in e ∙ sym ((bytes_eq-Decides b a).1 (sym same))
-    cases false e = e ∙ sym (bytes-swap a b e)
-
 -- ---- rows
 
 key-there : (key : List ℕ) (ps : List Placed) → list_any (keeping.has_key key) (map kept_row ps) ≡ has_key key ps
 key-there key [] = refl
-key-there key (p ∷ ps) = rw (bytes-swaps p.row.key key) (ap (λ b. bytes_eq key p.row.key || b) (key-there key ps))
+key-there key (p ∷ ps) = ap (λ b. bytes_eq key p.row.key || b) (key-there key ps)
 
 -- a row of a new key goes last
 pub put-new : (p : Placed) (ps : List Placed) → has_key p.row.key ps ≡ false → put_row (kept_row p) (map kept_row ps) ≡ map kept_row (ps ++ p ∷ [])
@@ -50,8 +42,8 @@ over-there row (p ∷ ps) = cases (bytes_eq row.key p.row.key) refl (over-there 
     cases true e rest =
         let same : row.key ≡ p.row.key = (bytes_eq-Decides row.key p.row.key).0 e in
         let head : record (kept_row p) { text = row.text } ≡ kept_row (record { place = p.place; row = row }) = ap (λ k. record { place = p.place; key = k; text = row.text }) (sym same) in
-        rw (bytes-swaps p.row.key row.key, e) (ap (λ k. k ∷ map kept_row ps) head)
-    cases false e rest = rw (bytes-swaps p.row.key row.key, e) (ap (λ rs. kept_row p ∷ rs) rest)
+        rw e (ap (λ k. k ∷ map kept_row ps) head)
+    cases false e rest = rw e (ap (λ rs. kept_row p ∷ rs) rest)
 
 -- a row of a key that is there takes its place
 pub put-there : (place : ℕ) (row : Row) (ps : List Placed) → has_key row.key ps ≡ true
@@ -64,8 +56,8 @@ cut-there key (p ∷ ps) = cases (bytes_eq key p.row.key) refl (cut-there key ps
   where
     cases : (b : Bool) → bytes_eq key p.row.key ≡ b → cut_row key (map kept_row ps) ≡ map kept_row (removed key ps)
         → cut_row key (map kept_row (p ∷ ps)) ≡ map kept_row (removed key (p ∷ ps))
-    cases true e rest = rw (bytes-swaps p.row.key key, e) refl
-    cases false e rest = rw (bytes-swaps p.row.key key, e) (ap (λ rs. kept_row p ∷ rs) rest)
+    cases true e rest = rw e refl
+    cases false e rest = rw e (ap (λ rs. kept_row p ∷ rs) rest)
 
 -- ---- tables
 

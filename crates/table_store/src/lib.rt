@@ -8,11 +8,14 @@ mod dropping;
 mod editing;
 mod finding;
 mod inserting;
+mod kept_rows;
 mod listing;
 mod live;
-
+mod load_refused;
+mod loading;
 mod reading;
 mod tables;
 
 pub use live::{Live, LiveTables};
+pub use load_refused::LoadRefused;
 pub use tables::{Held, Tables};

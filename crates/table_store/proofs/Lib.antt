@@ -12,3 +12,4 @@ pub mod Behind
 pub mod RowLoads
 pub mod TableLoads
 pub mod Loads
+pub mod LoadLaws

@@ -1,5 +1,5 @@
 -- Tables that were loaded are sound, and are those that the keeper tells.
-use Rattle.std.proofs.Common.{◌≡◌, ℕ, ◌+◌, ◌<◌, ◌≤◌, max, nat_lt, Bool, true, false, ◌||◌, List, [], ◌∷◌, ◌++◌, length, map, Option, None, Some, refl, ap, sym, ◌∙◌, subst, append_assoc, length-append, arith}
+use Rattle.std.proofs.Common.{◌≡◌, ℕ, ◌+◌, ◌<◌, ◌≤◌, false, List, [], ◌∷◌, ◌++◌, length, map, Option, None, Some, refl, ap, sym, ◌∙◌, subst, append_assoc, length-append, arith}
 use Rattle.std.proofs.lemmas.Bool.{or_parts}
 use Rattle.std.specs.List.{AllZip}
 use Rattle.bson_values.specs.declared.space.Space.{Space}
@@ -14,10 +14,10 @@ use Rattle.table_words.specs.Tables.{Table, Tables, MOST_TABLES, has_text}
 use Rattle.table_words.specs.Sound.{SoundRows, IsApart, SoundTable, SoundTables, Sound}
 use Rattle.table_words.proofs.Finds.{space-swap}
 use Rattle.table_words.proofs.Rows.{sound-last}
-use Rattle.table_store.specs.Kept.{again, kept_row, kept_table, kept_tables, plain_row, plain_table, Tells}
+use Rattle.table_store.specs.Kept.{again, kept_row, kept_tables, plain_row, plain_table, Tells}
 use Rattle.table_store.specs.Ran.{IsReady}
-use Rattle.table_store.specs.Loading.{past, EachGood, places, keys, GoodRow, numbers, spaces, has_space, follows, GoodTable, IsPlaced, stamp_of, IsTableOf, given, IsLoaded}
-use Rattle.table_store.proofs.Past.{past-least, past-append, past-one}
+use Rattle.table_store.specs.Loading.{past, EachGood, places, keys, GoodRow, numbers, spaces, has_space, GoodTable, IsPlaced, stamp_of, IsTableOf, given, IsLoaded}
+use Rattle.table_store.proofs.Past.{past-append, past-one}
 use Rattle.table_store.proofs.Behind.{zip-last}
 use Rattle.table_store.proofs.RowLoads.{stands, key_in, keys-same}
 use Rattle.table_store.proofs.TableLoads.{followed}

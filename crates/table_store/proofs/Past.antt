@@ -1,5 +1,5 @@
 -- The least number above others.
-use Rattle.std.proofs.Common.{◌≡◌, ℕ, ◌+◌, ◌<◌, ◌≤◌, max, List, [], ◌∷◌, ◌++◌, refl, ap, sym, ◌∙◌, arith}
+use Rattle.std.proofs.Common.{◌≡◌, ℕ, ◌+◌, ◌≤◌, max, List, [], ◌∷◌, ◌++◌, arith}
 use Rattle.table_store.specs.Loading.{past}
 
 pub past-least : (least : ℕ) (ns : List ℕ) → least ≤ past least ns

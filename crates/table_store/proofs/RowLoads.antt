@@ -1,5 +1,5 @@
 -- Kept rows, as they are loaded one after another.
-use Rattle.std.proofs.Common.{◌≡◌, ℕ, ◌+◌, ◌<◌, ◌≤◌, max, nat_lt, nat_le, codes, Bool, true, false, not, ◌&&◌, ◌||◌, List, [], ◌∷◌, ◌++◌, map, Option, None, Some, refl, ap, sym, ◌∙◌, subst, arith}
+use Rattle.std.proofs.Common.{◌≡◌, ℕ, ◌+◌, ◌≤◌, nat_lt, nat_le, codes, true, false, not, ◌&&◌, ◌||◌, List, [], ◌∷◌, ◌++◌, Option, None, Some, refl, ap, sym, ◌∙◌, subst, arith}
 use Rattle.std.proofs.lemmas.Bool.{and_parts, and_from, leb-true, not-true}
 use Rattle.std.proofs.lemmas.Bool.Decides.{nat_tests}
 use Rattle.std.proofs.lemmas.List.{map-append}
@@ -21,10 +21,9 @@ use Rattle.table_rows.specs.declared.listed.Placed.{Placed}
 use Rattle.table_rows.specs.declared.row.Row.{Row}
 use Rattle.table_rows.specs.Rows.{above, has_key}
 use Rattle.table_words.specs.Tables.{LAST_NUMBER, has_text}
-use Rattle.table_words.specs.Sound.{IsSound}
 use Rattle.typed_json.specs.Laws.{IsRowOf}
 use Rattle.typed_json.proofs.Rows.{one_document}
-use Rattle.table_store.specs.Loading.{past, EachGood, places, keys, IsRead, may_stand, GoodRow, FaultyRow, IsPlaced, stamp_of}
+use Rattle.table_store.specs.Loading.{past, places, keys, IsRead, may_stand, GoodRow, FaultyRow, IsPlaced, stamp_of}
 use Rattle.table_store.specs.LoadingSteps.{is_key_of, keys_in, AddsRow, HasRows}
 use Rattle.table_store.proofs.Past.{past-last}
 use Rattle.table_store.proofs.Behind.{each-last, zip-last}
@@ -32,7 +31,7 @@ use Rattle.table_store.proofs.Behind.{each-last, zip-last}
 -- ---- the row of a text
 
 -- a text has one JSON
-same-json : (text : List ℕ) (one other : Json) → read_json text ≡ Some one → read_json text ≡ Some other → one ≡ other
+pub same-json : (text : List ℕ) (one other : Json) → read_json text ≡ Some one → read_json text ≡ Some other → one ≡ other
 same-json text one other first second = let same : Some one ≡ Some other = sym first ∙ second in cc
 
 -- the key of the first `_id`

@@ -1,5 +1,5 @@
 -- Kept tables, as they are loaded one after another.
-use Rattle.std.proofs.Common.{◌≡◌, ℕ, ◌+◌, ◌<◌, ◌≤◌, max, nat_lt, nat_le, Bool, true, false, not, ◌&&◌, ◌||◌, MatchBool, List, [], ◌∷◌, ◌++◌, length, map, refl, ap, sym, ◌∙◌, subst, append_assoc, arith}
+use Rattle.std.proofs.Common.{◌≡◌, ℕ, ◌+◌, ◌<◌, ◌≤◌, max, nat_lt, nat_le, Bool, true, false, not, ◌&&◌, ◌||◌, MatchBool, List, [], ◌∷◌, ◌++◌, length, refl, ap, sym, ◌∙◌, subst, append_assoc, arith}
 use Rattle.std.proofs.lemmas.Bool.{and_parts, leb-true, ltb-true, not-true}
 use Rattle.std.proofs.lemmas.List.{map-append}
 use Rattle.std.specs.List.{AllZip, list_any}
@@ -9,16 +9,15 @@ use Rattle.bson_values.specs.Names.{same_space}
 use Rattle.naming.specs.Names.{is_valid}
 use Rattle.outside.specs.declared.kept.KeptRow.{KeptRow}
 use Rattle.outside.specs.declared.kept.KeptTable.{KeptTable}
-use Rattle.table_rows.specs.declared.listed.Listed.{Listed}
-use Rattle.table_words.specs.Tables.{Table, Tables, MOST_TABLES, LAST_NUMBER}
+use Rattle.table_words.specs.Tables.{MOST_TABLES, LAST_NUMBER}
 use Rattle.table_store.specs.declared.live.Live.{Live}
 use Rattle.table_store.specs.declared.loading.Loading.{Loading}
 use Rattle.table_store.specs.declared.load_refused.LoadRefused.{LoadRefused}
 use Rattle.table_store.specs.declared.load_refused.LoadRefused.TheVariants.{KeeperFault, BadKept, NoMemory}
 use Rattle.table_store.specs.Found.{shown, all_shown}
-use Rattle.table_store.specs.Loading.{past, EachGood, places, keys, FirstBad, GoodRow, FaultyRow, numbers, spaces, has_space, may_number, may_name, may_follow, follows, GoodTable, FirstFault, IsTableOf, given, IsLoaded, Refuses}
-use Rattle.table_store.specs.LoadingSteps.{HasRows, RefusesRows, spaces_of, may_be_next, AddsTable, RefusesTable}
-use Rattle.table_store.proofs.Past.{past-least, past-append, past-last, past-one}
+use Rattle.table_store.specs.Loading.{past, EachGood, places, GoodRow, FaultyRow, numbers, spaces, has_space, may_number, may_name, may_follow, follows, GoodTable, FirstFault, IsTableOf, given, IsLoaded, Refuses}
+use Rattle.table_store.specs.LoadingSteps.{RefusesRows, spaces_of, may_be_next, AddsTable, RefusesTable}
+use Rattle.table_store.proofs.Past.{past-append, past-last, past-one}
 use Rattle.table_store.proofs.Behind.{each-last, each-at, zip-last}
 
 -- ---- what may follow

@@ -5,3 +5,4 @@ pub mod Edits
 pub mod Drops
 pub mod Loading
 pub mod LoadingSteps
+pub mod LoadingLaws

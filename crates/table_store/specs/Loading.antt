@@ -1,5 +1,5 @@
 -- What tables a keeper's tables are, and the first fault of them where they are none.
-use Rattle.std.specs.Prelude.{ℕ, ◌≡◌, ◌+◌, max, nat_lt, nat_le, Bool, true, false, not, ◌&&◌, MatchBool, List, [], ◌∷◌, ◌++◌, length, map, Option, None, Some, Result, Ok, Err}
+use Rattle.std.specs.Prelude.{ℕ, ◌≡◌, ◌+◌, max, nat_lt, nat_le, Bool, true, not, ◌&&◌, MatchBool, List, [], ◌∷◌, ◌++◌, length, map, Option, Some, Result, Ok, Err}
 use Rattle.std.specs.List.{AllZip, list_any}
 use Rattle.bson_values.specs.declared.space.Space.{Space}
 use Rattle.bson_values.specs.Names.{same_space}

@@ -11,7 +11,6 @@ use Rattle.outside.specs.declared.kept.KeptTable.{KeptTable}
 use Rattle.table_rows.specs.declared.listed.Listed.{Listed}
 use Rattle.table_rows.specs.declared.listed.Placed.{Placed}
 use Rattle.table_rows.specs.declared.row.Row.{Row}
-use Rattle.table_store.specs.Found.{all_shown}
 use Rattle.table_store.specs.Loading.{past, EachGood, places, may_stand, IsRead, GoodRow, FaultyRow, may_follow, IsPlaced, stamp_of}
 use Rattle.table_store.specs.declared.live.Live.{Live}
 use Rattle.table_store.specs.declared.load_refused.LoadRefused.{LoadRefused}

@@ -1,4 +1,4 @@
-ghost use Rattle.std.specs.Prelude.{◌≡◌, ◌≤◌, codes, true, IfOk, IfErr, OnOk};
+ghost use Rattle.std.specs.Prelude.{◌≡◌, codes, true, IfOk, IfErr, OnOk};
 ghost use Rattle.bson_values.specs.Names.{first_of};
 ghost use Rattle.jsonb_contain.specs.Texts.{read_json};
 ghost use Rattle.table_rows.specs.Rows.{above};

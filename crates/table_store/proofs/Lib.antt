@@ -7,3 +7,9 @@ pub mod Changing
 pub mod Calls
 pub mod Creations
 pub mod Drops
+pub mod Past
+pub mod Behind
+pub mod RowLoads
+pub mod TableLoads
+pub mod Loads
+pub mod LoadLaws

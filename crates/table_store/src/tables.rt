@@ -20,7 +20,7 @@ pub struct Held<K> {
 /// All tables of a store. Each change goes to the keeper before it is told.
 #[derive(Drop)]
 pub struct Tables<K: Keeper> {
-    tables: LiveTables<K>,
+    pub(crate) tables: LiveTables<K>,
 }
 
 impl<K: Keeper> Model for Tables<K> {

@@ -1,4 +1,4 @@
-ghost use Rattle.std.specs.Prelude.{◌≡◌, ◌+◌, ◌%◌, ◌^◌, true, refl};
+ghost use Rattle.std.specs.Prelude.{◌≡◌, ◌+◌, ◌%◌, ◌^◌, ⊤};
 
 use history_lock::{Object, Who};
 use std::alloc::Global;
@@ -27,7 +27,7 @@ impl Object for Counter {
 
     ghost next = { λ s _ _. (s + 1) % 2 ^ 64 };
 
-    ghost only_accepted = { λ _ _ _ _ _ _. refl };
+    ghost only_accepted = { λ _ _ _ _ _ _. tt };
 
     fn run(&mut self, call: u64) -> u64 {
         self.count = self.count.wrapping_add(1);

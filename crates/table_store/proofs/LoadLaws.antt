@@ -15,7 +15,8 @@ use Rattle.table_store.proofs.RowLoads.{same-json}
 
 -- ---- one state
 
-zip-one : {A B : Type 0} (R : A → B → Type 0) → ((x : A) (y z : B) → R x y → R x z → y ≡ z) → (xs : List A) (ys zs : List B) → AllZip R xs ys → AllZip R xs zs → ys ≡ zs
+zip-one : {A B : Type 0} (R : A → B → Type 0) → ((x : A) (y z : B) → R x y → R x z → y ≡ z) → (xs : List A) (ys zs : List B)
+    → AllZip R xs ys → AllZip R xs zs → ys ≡ zs
 zip-one R one [] [] [] first second = refl
 zip-one R one [] [] (z ∷ zs) first second = absurd second
 zip-one R one [] (y ∷ ys) zs first second = absurd first
@@ -49,20 +50,26 @@ one_state kept s t first second =
 
 pub no_fault : NoFault
 no_fault kept s number place loaded fault =
-    let first = fault.first in first.bad (each-at GoodTable [] fault.before first.rest fault.table (subst (EachGood GoodTable []) first.is loaded.good))
+    let first = fault.first in
+    first.bad (each-at GoodTable [] fault.before first.rest fault.table (subst (EachGood GoodTable []) first.is loaded.good))
 
 -- two that are the first which is not good are one
-first-one : {A : Type 0} (Good : List A → A → Type 0) (front before other rest more : List A) (x y : A) → before ++ x ∷ rest ≡ other ++ y ∷ more
-    → EachGood Good front before → EachGood Good front other → (Good (front ++ before) x → ⊥) → (Good (front ++ other) y → ⊥) → (before ≡ other) × (x ≡ y)
+first-one : {A : Type 0} (Good : List A → A → Type 0) (front before other rest more : List A) (x y : A)
+    → before ++ x ∷ rest ≡ other ++ y ∷ more
+    → EachGood Good front before → EachGood Good front other → (Good (front ++ before) x → ⊥) → (Good (front ++ other) y → ⊥)
+    → (before ≡ other) × (x ≡ y)
 first-one Good front [] [] rest more x y is one two bad worse = (refl, cc)
 first-one Good front [] (o ∷ os) rest more x y is one two bad worse =
-    let same : o ≡ x = cc in absurd (bad (subst (λ (z : _). Good (front ++ []) z) same (subst (λ f. Good f o) (sym (append-nil front)) two.0)))
+    let same : o ≡ x = cc in
+    absurd (bad (subst (λ z. Good (front ++ []) z) same (subst (λ f. Good f o) (sym (append-nil front)) two.0)))
 first-one Good front (b ∷ bs) [] rest more x y is one two bad worse =
-    let same : b ≡ y = cc in absurd (worse (subst (λ (z : _). Good (front ++ []) z) same (subst (λ f. Good f b) (sym (append-nil front)) one.0)))
+    let same : b ≡ y = cc in
+    absurd (worse (subst (λ z. Good (front ++ []) z) same (subst (λ f. Good f b) (sym (append-nil front)) one.0)))
 first-one Good front (b ∷ bs) (o ∷ os) rest more x y is one two bad worse =
     let same : o ≡ b = cc in
     let others : bs ++ x ∷ rest ≡ os ++ y ∷ more = cc in
-    let both = first-one Good (front ++ b ∷ []) bs os rest more x y others one.1 (subst (λ z. EachGood Good (front ++ z ∷ []) os) same two.1)
+    let goes = subst (λ z. EachGood Good (front ++ z ∷ []) os) same two.1 in
+    let both = first-one Good (front ++ b ∷ []) bs os rest more x y others one.1 goes
     (λ good. bad (subst (λ f. Good f x) (append_assoc front (b ∷ []) bs) good))
     (λ good. worse (subst (λ z. Good (front ++ z ∷ os) y) (sym same) (subst (λ f. Good f y) (append_assoc front (b ∷ []) os) good))) in
     (λ i. (sym same) i ∷ both.0 i, both.1)
@@ -71,10 +78,12 @@ row-one : (rows : List KeptRow) (p q : ℕ) → FaultyRow rows p → FaultyRow r
 row-one rows p q first second =
     let one = first.2 in
     let two = second.2 in
-    let both = first-one GoodRow [] first.0 second.0 one.rest two.rest first.1 second.1 (sym one.is ∙ two.is) one.good two.good one.bad two.bad in
+    let same = sym one.is ∙ two.is in
+    let both = first-one GoodRow [] first.0 second.0 one.rest two.rest first.1 second.1 same one.good two.good one.bad two.bad in
     sym first.3 ∙ ap (λ (row : KeptRow). row.place) both.1 ∙ second.3
 
-place-one : (may : Bool) (rows : List KeptRow) (p q : ℕ) → MatchBool may (FaultyRow rows p) (p ≡ 0) → MatchBool may (FaultyRow rows q) (q ≡ 0) → p ≡ q
+place-one : (may : Bool) (rows : List KeptRow) (p q : ℕ) → MatchBool may (FaultyRow rows p) (p ≡ 0)
+    → MatchBool may (FaultyRow rows q) (q ≡ 0) → p ≡ q
 place-one true rows p q first second = row-one rows p q first second
 place-one false rows p q first second = first ∙ sym second
 
@@ -82,12 +91,15 @@ pub one_fault : OneFault
 one_fault kept m n p q first second =
     let one = first.first in
     let two = second.first in
-    let both = first-one GoodTable [] first.before second.before one.rest two.rest first.table second.table (sym one.is ∙ two.is) one.good two.good one.bad two.bad in (
+    let same = sym one.is ∙ two.is in
+    let both = first-one GoodTable [] first.before second.before one.rest two.rest first.table second.table same
+    one.good two.good one.bad two.bad in (
       sym first.of ∙ ap (λ (t : KeptTable). t.number) both.1 ∙ second.of,
       place-one (follows first.before first.table) first.table.rows p q first.at (at both second.at),
     )
   where
-    at : (both : (first.before ≡ second.before) × (first.table ≡ second.table)) → MatchBool (follows second.before second.table) (FaultyRow second.table.rows q) (q ≡ 0)
+    at : (both : (first.before ≡ second.before) × (first.table ≡ second.table))
+        → MatchBool (follows second.before second.table) (FaultyRow second.table.rows q) (q ≡ 0)
         → MatchBool (follows first.before first.table) (FaultyRow first.table.rows q) (q ≡ 0)
     at both it =
         subst (λ (b : List KeptTable). MatchBool (follows b first.table) (FaultyRow first.table.rows q) (q ≡ 0)) (sym both.0)

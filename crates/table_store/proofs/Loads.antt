@@ -49,7 +49,8 @@ told-tables (k ∷ ks) (t ∷ ts) all =
 -- ---- rows
 
 -- behind sound rows that were loaded
-sound-behind : (next : ℕ) (front ks : List KeptRow) (qs ps : List Placed) → AllZip IsPlaced front qs → AllZip IsPlaced ks ps → EachGood GoodRow front ks
+sound-behind : (next : ℕ) (front ks : List KeptRow) (qs ps : List Placed) → AllZip IsPlaced front qs → AllZip IsPlaced ks ps
+    → EachGood GoodRow front ks
     → past 0 (places ks) ≤ next → SoundRows next qs → SoundRows next (qs ++ ps)
 sound-behind next front [] qs [] before all good le sound = subst (SoundRows next) (sym (none qs)) sound
   where
@@ -62,12 +63,14 @@ sound-behind next front (k ∷ ks) qs (p ∷ ps) before all good le sound =
     let one = all.0 in
     let place = one.place in
     let new = (stands (past 0 (places front)) (keys front) k (good.0).may).new in
-    let alone : has_key p.row.key qs ≡ false = ap (λ key. has_key key qs) (one.is).under ∙ key_in k.key qs ∙ ap (has_text k.key) (keys-same front qs before) ∙ new in
+    let same = ap (has_text k.key) (keys-same front qs before) in
+    let alone : has_key p.row.key qs ≡ false = ap (λ key. has_key key qs) (one.is).under ∙ key_in k.key qs ∙ same ∙ new in
     subst (SoundRows next) (append_assoc qs (p ∷ []) ps)
     (sound-behind next (front ++ k ∷ []) ks (qs ++ p ∷ []) ps (zip-last IsPlaced front qs k p before one) all.1 good.1 (omega (arith, le))
     (sound-last next qs p (one.is).sound alone (omega (arith, le, place)) sound))
 
-sound-rows : (next : ℕ) (ks : List KeptRow) (ps : List Placed) → AllZip IsPlaced ks ps → EachGood GoodRow [] ks → past 0 (places ks) ≤ next → SoundRows next ps
+sound-rows : (next : ℕ) (ks : List KeptRow) (ps : List Placed) → AllZip IsPlaced ks ps → EachGood GoodRow [] ks
+    → past 0 (places ks) ≤ next → SoundRows next ps
 sound-rows next ks ps all good le = sound-behind next [] ks [] ps tt all good le tt
 
 stamp-below : (next n : ℕ) (ks : List KeptRow) → n < next → past 0 (places ks) ≤ next → stamp_of n ks < next
@@ -81,7 +84,8 @@ abbrev Below : ℕ → Space → List Table → Type 0
 Below n space [] = Unit {0}
 Below n space (t ∷ ts) = (same_space t.space space ≡ false) × (t.number < n) × Below n space ts
 
-below-all : (n : ℕ) (space : Space) (ks : List KeptTable) (ts : List Table) → AllZip IsTableOf ks ts → past 1 (numbers ks) ≤ n → has_space space (spaces ks) ≡ false
+below-all : (n : ℕ) (space : Space) (ks : List KeptTable) (ts : List Table) → AllZip IsTableOf ks ts → past 1 (numbers ks) ≤ n
+    → has_space space (spaces ks) ≡ false
     → Below n space ts
 below-all n space [] [] all le none = tt
 below-all n space [] (t ∷ ts) all le none = absurd all
@@ -95,15 +99,19 @@ below-all n space (k ∷ ks) (t ∷ ts) all le none =
       below-all n space ks ts all.1 (omega (arith, le)) parts.1,
     )
 
-apart-last : (v t : Table) (ts : List Table) → IsApart v ts → same_space v.space t.space ≡ false → v.number < t.number → IsApart v (ts ++ t ∷ [])
+apart-last : (v t : Table) (ts : List Table) → IsApart v ts → same_space v.space t.space ≡ false → v.number < t.number
+    → IsApart v (ts ++ t ∷ [])
 apart-last v t [] apart away less = (away, less, tt)
 apart-last v t (u ∷ us) apart away less = (apart.0, apart.1, apart-last v t us apart.2 away less)
 
-tables-last : (next : ℕ) (t : Table) (ts : List Table) → SoundTables next ts → Below t.number t.space ts → SoundTable next t → SoundTables next (ts ++ t ∷ [])
+tables-last : (next : ℕ) (t : Table) (ts : List Table) → SoundTables next ts → Below t.number t.space ts → SoundTable next t
+    → SoundTables next (ts ++ t ∷ [])
 tables-last next t [] sound below new = (new, tt, tt)
-tables-last next t (u ∷ us) sound below new = (sound.0, apart-last u t us sound.1 below.0 below.1, tables-last next t us sound.2 below.2 new)
+tables-last next t (u ∷ us) sound below new =
+    (sound.0, apart-last u t us sound.1 below.0 below.1, tables-last next t us sound.2 below.2 new)
 
-tables-behind : (next : ℕ) (front ks : List KeptTable) (us ts : List Table) → AllZip IsTableOf front us → AllZip IsTableOf ks ts → EachGood GoodTable front ks
+tables-behind : (next : ℕ) (front ks : List KeptTable) (us ts : List Table) → AllZip IsTableOf front us → AllZip IsTableOf ks ts
+    → EachGood GoodTable front ks
     → past 1 (given ks) ≤ next → SoundTables next us → SoundTables next (us ++ ts)
 tables-behind next front [] us [] before all good le sound = subst (SoundTables next) (sym (none us)) sound
   where
@@ -126,13 +134,16 @@ tables-behind next front (k ∷ ks) us (t ∷ ts) before all good le sound =
       stamp = subst (λ n. n < next) (sym one.stamp) (stamp-below next k.number k.rows less high);
       space = ap is_valid one.space ∙ follow.valid;
     } in
-    let below : Below t.number t.space us = below-all t.number t.space front us before (subst (λ n. past 1 (numbers front) ≤ n) (sym one.number) follow.low)
+    let low = subst (λ n. past 1 (numbers front) ≤ n) (sym one.number) follow.low in
+    let below : Below t.number t.space us = below-all t.number t.space front us before low
     (ap (λ space. has_space space (spaces front)) one.space ∙ follow.new) in
     subst (SoundTables next) (append_assoc us (t ∷ []) ts)
-    (tables-behind next (front ++ k ∷ []) ks (us ++ t ∷ []) ts (zip-last IsTableOf front us k t before one) all.1 good.1 rest (tables-last next t us sound below new))
+    (tables-behind next (front ++ k ∷ []) ks (us ++ t ∷ []) ts (zip-last IsTableOf front us k t before one) all.1 good.1 rest
+    (tables-last next t us sound below new))
 
 -- there are not too many
-few-all : (front ks : List KeptTable) (ts : List Table) → AllZip IsTableOf ks ts → EachGood GoodTable front ks → length front ≤ MOST_TABLES → length front + length ts ≤ MOST_TABLES
+few-all : (front ks : List KeptTable) (ts : List Table) → AllZip IsTableOf ks ts → EachGood GoodTable front ks
+    → length front ≤ MOST_TABLES → length front + length ts ≤ MOST_TABLES
 few-all front [] [] all good le = omega (arith, le)
 few-all front [] (t ∷ ts) all good le = absurd all
 few-all front (k ∷ ks) [] all good le = absurd all
@@ -151,8 +162,10 @@ loaded-sound kept s loaded =
     }
 
 -- tables that were loaded may be called
-pub ready-loaded : (old new : Option (List KeptTable)) (kept : List KeptTable) (s : Tables) → told.Tells old kept → new ≡ old → IsLoaded kept s → IsReady new s
-ready-loaded old new kept s tells same loaded = record { sound = loaded-sound kept s loaded; tells = subst (λ o. Tells o s) (sym same) (all old tells) }
+pub ready-loaded : (old new : Option (List KeptTable)) (kept : List KeptTable) (s : Tables) → told.Tells old kept → new ≡ old
+    → IsLoaded kept s → IsReady new s
+ready-loaded old new kept s tells same loaded =
+    record { sound = loaded-sound kept s loaded; tells = subst (λ o. Tells o s) (sym same) (all old tells) }
   where
     all : (o : Option (List KeptTable)) → told.Tells o kept → Tells o s
     all None tells = tt

@@ -35,26 +35,33 @@ pub same-json : (text : List ℕ) (one other : Json) → read_json text ≡ Some
 same-json text one other first second = let same : Some one ≡ Some other = sym first ∙ second in cc
 
 -- the key of the first `_id`
-pub is-key : (id : Option Value) (bytes : List ℕ) → is_key_of id bytes ≡ true → (it : Value) × (id ≡ Some it) × (can_be_id (out-Value it) ≡ true) × (bytes ≡ key it)
+pub is-key : (id : Option Value) (bytes : List ℕ) → is_key_of id bytes ≡ true
+    → (it : Value) × (id ≡ Some it) × (can_be_id (out-Value it) ≡ true) × (bytes ≡ key it)
 is-key None bytes is = absurd cc
 is-key (Some it) bytes is =
-    let both = and_parts (can_be_id (out-Value it)) (bytes_eq (key it) bytes) is in (it, refl, both.0, sym ((bytes_eq-Decides (key it) bytes).0 both.1))
+    let both = and_parts (can_be_id (out-Value it)) (bytes_eq (key it) bytes) is in
+    (it, refl, both.0, sym ((bytes_eq-Decides (key it) bytes).0 both.1))
 
-own-key : (id : Option Value) (bytes : List ℕ) (it : Value) → id ≡ Some it → can_be_id (out-Value it) ≡ true → bytes ≡ key it → is_key_of id bytes ≡ true
+own-key : (id : Option Value) (bytes : List ℕ) (it : Value) → id ≡ Some it → can_be_id (out-Value it) ≡ true → bytes ≡ key it
+    → is_key_of id bytes ≡ true
 own-key id bytes it is may own =
-    subst (λ o. is_key_of o bytes ≡ true) (sym is) (and_from (can_be_id (out-Value it)) (bytes_eq (key it) bytes) may ((bytes_eq-Decides (key it) bytes).1 (sym own)))
+    let same = (bytes_eq-Decides (key it) bytes).1 (sym own) in
+    subst (λ o. is_key_of o bytes ≡ true) (sym is) (and_from (can_be_id (out-Value it)) (bytes_eq (key it) bytes) may same)
 
-pub not-keyed : (bytes text : List ℕ) (json : Json) (doc : List (Pair Value)) → read_json text ≡ Some json → IsRowOf json doc → is_key_of (first_of (codes "_id") doc) bytes ≡ false
+pub not-keyed : (bytes text : List ℕ) (json : Json) (doc : List (Pair Value)) → read_json text ≡ Some json → IsRowOf json doc
+    → is_key_of (first_of (codes "_id") doc) bytes ≡ false
     → (row : Row) → IsRead bytes text row → ⊥
 not-keyed bytes text json doc reads is none row read =
     let sound = read.sound in
     let same : row.json ≡ json = same-json text row.json json read.reads reads in
     let one : sound.doc ≡ doc = one_document json sound.doc doc (subst (λ (j : Json). IsRowOf j sound.doc) same sound.json) is in
     let id : first_of (codes "_id") doc ≡ Some sound.id = ap (first_of (codes "_id")) (sym one) ∙ sound.has_id in
-    never-both (is_key_of (first_of (codes "_id") doc) bytes) (own-key (first_of (codes "_id") doc) bytes sound.id id sound.may (sym read.under ∙ sound.key_is)) none
+    let keyed = own-key (first_of (codes "_id") doc) bytes sound.id id sound.may (sym read.under ∙ sound.key_is) in
+    never-both (is_key_of (first_of (codes "_id") doc) bytes) keyed none
 
 pub row-read : (bytes text : List ℕ) (json : Json) (doc : List (Pair Value)) (row : Row) → read_json text ≡ Some json → IsRowOf json doc
-    → is_key_of (first_of (codes "_id") doc) bytes ≡ true → row.key ≡ bytes → row.json ≡ json → row.text ≡ compact_text (data_of json) → IsRead bytes text row
+    → is_key_of (first_of (codes "_id") doc) bytes ≡ true → row.key ≡ bytes → row.json ≡ json → row.text ≡ compact_text (data_of json)
+    → IsRead bytes text row
 row-read bytes text json doc row reads is keyed under same written =
     let id = is-key (first_of (codes "_id") doc) bytes keyed in record {
       under = under;
@@ -105,7 +112,8 @@ keys-same [] (p ∷ ps) all = absurd all
 keys-same (k ∷ ks) [] all = absurd all
 keys-same (k ∷ ks) (p ∷ ps) all = λ i. ((all.0).is).under i ∷ keys-same ks ps all.1 i
 
-above-all : (least : ℕ) (ks : List KeptRow) (ps : List Placed) → AllZip IsPlaced ks ps → past 0 (places ks) ≤ least → above least ps ≡ true
+above-all : (least : ℕ) (ks : List KeptRow) (ps : List Placed) → AllZip IsPlaced ks ps → past 0 (places ks) ≤ least
+    → above least ps ≡ true
 above-all least [] [] all le = refl
 above-all least [] (p ∷ ps) all le = absurd all
 above-all least (k ∷ ks) [] all le = absurd all
@@ -118,9 +126,6 @@ stamp-last : (n : ℕ) (ks : List KeptRow) (k : KeptRow) → stamp_of n (ks ++ k
 stamp-last n [] k = refl
 stamp-last n (j ∷ ks) k = stamp-last j.place ks k
 
-pub rows-begin : (n : ℕ) (t : Listed) → t ≡ record { number = n; stamp = n; rows = [] } → HasRows n [] t 0
-rows-begin n t is = subst (λ (x : Listed). HasRows n [] x 0) (sym is) (record { good = tt; rows = tt; number = refl; stamp = refl; low = refl })
-
 pub rows-above : (n : ℕ) (ks : List KeptRow) (t : Listed) (least : ℕ) → HasRows n ks t least → above least t.rows ≡ true
 rows-above n ks t least has = let low = has.low in above-all least ks t.rows has.rows (omega (arith, low))
 
@@ -129,7 +134,8 @@ may-behind : (n : ℕ) (ks : List KeptRow) (t : Listed) (least : ℕ) (kept : Ke
     → may_stand least (keys_in t.rows) kept ≡ may_stand (past 0 (places ks)) (keys ks) kept
 may-behind n ks t least kept has = λ i. may_stand (has.low i) (keys-same ks t.rows has.rows i) kept
 
-pub rows-go : (n : ℕ) (ks : List KeptRow) (kept : KeptRow) (old new : Listed) (least : ℕ) → HasRows n ks old least → AddsRow least kept old new
+pub rows-go : (n : ℕ) (ks : List KeptRow) (kept : KeptRow) (old new : Listed) (least : ℕ) → HasRows n ks old least
+    → AddsRow least kept old new
     → HasRows n (ks ++ kept ∷ []) new (kept.place + 1)
 rows-go n ks kept old new least has adds =
     let may = sym (may-behind n ks old least kept has) ∙ adds.may in
@@ -145,7 +151,8 @@ rows-go n ks kept old new least has adds =
     })
 
 -- one that is not good
-pub rows-stop : (n : ℕ) (rows ks rest : List KeptRow) (kept : KeptRow) (old : Listed) (least : ℕ) → HasRows n ks old least → rows ≡ ks ++ kept ∷ rest
+pub rows-stop : (n : ℕ) (rows ks rest : List KeptRow) (kept : KeptRow) (old : Listed) (least : ℕ) → HasRows n ks old least
+    → rows ≡ ks ++ kept ∷ rest
     → (may_stand least (keys_in old.rows) kept ≡ true → (row : Row) → IsRead kept.key kept.text row → ⊥) → FaultyRow rows kept.place
 rows-stop n rows ks rest kept old least has is bad = (
   ks,
@@ -161,13 +168,17 @@ rows-stop n rows ks rest kept old least has is bad = (
 
 -- ---- one row
 
-pub absent-key : (least : ℕ) (kept : KeptRow) (ps : List Placed) (bytes : List ℕ) → may_stand least (keys_in ps) kept ≡ true → bytes ≡ kept.key → has_key bytes ps ≡ false
+pub absent-key : (least : ℕ) (kept : KeptRow) (ps : List Placed) (bytes : List ℕ) → may_stand least (keys_in ps) kept ≡ true
+    → bytes ≡ kept.key → has_key bytes ps ≡ false
 absent-key least kept ps bytes may is = ap (λ k. has_key k ps) is ∙ key_in kept.key ps ∙ (stands least (keys_in ps) kept may).new
 
-pub above-row : (least : ℕ) (kept : KeptRow) (ps : List Placed) → may_stand least (keys_in ps) kept ≡ true → above least ps ≡ true → above kept.place ps ≡ true
+pub above-row : (least : ℕ) (kept : KeptRow) (ps : List Placed) → may_stand least (keys_in ps) kept ≡ true → above least ps ≡ true
+    → above kept.place ps ≡ true
 above-row least kept ps may is = above-more least kept.place ps ((stands least (keys_in ps) kept may).low) is
 
-pub row-added : (least : ℕ) (kept : KeptRow) (old mid new : Listed) (row : Row) → may_stand least (keys_in old.rows) kept ≡ true → IsRead kept.key kept.text row
-    → mid ≡ record old { rows = old.rows ++ record { place = kept.place; row = row } ∷ [] } → new ≡ record mid { stamp = kept.place } → AddsRow least kept old new
+pub row-added : (least : ℕ) (kept : KeptRow) (old mid new : Listed) (row : Row) → may_stand least (keys_in old.rows) kept ≡ true
+    → IsRead kept.key kept.text row
+    → mid ≡ record old { rows = old.rows ++ record { place = kept.place; row = row } ∷ [] } → new ≡ record mid { stamp = kept.place }
+    → AddsRow least kept old new
 row-added least kept old mid new row may is came went =
     record { may = may; row = row; is = is; after = went ∙ ap (λ (t : Listed). record t { stamp = kept.place }) came }

@@ -29,7 +29,8 @@ pub record Follows (count least : ℕ) (taken : List Space) (table : KeptTable) 
   pub valid : is_valid table.space ≡ true
   pub new : has_space table.space taken ≡ false
 
-pub followed : (count least : ℕ) (taken : List Space) (table : KeptTable) → may_follow count least taken table ≡ true → Follows count least taken table
+pub followed : (count least : ℕ) (taken : List Space) (table : KeptTable) → may_follow count least taken table ≡ true
+    → Follows count least taken table
 followed count least taken table may =
     let parts = and_parts (may_number count least table.number) (may_name taken table.space) may in
     let named = and_parts (is_valid table.space) (not (has_space table.space taken)) parts.1 in
@@ -42,7 +43,8 @@ followed count least taken table may =
       new = not-true (has_space table.space taken) named.1;
     }
 
-pub space_in : (space : Space) (live : List Live) → list_any (λ (kept : Live). same_space space kept.space) live ≡ has_space space (spaces_of live)
+pub space_in : (space : Space) (live : List Live)
+    → list_any (λ (kept : Live). same_space space kept.space) live ≡ has_space space (spaces_of live)
 space_in space [] = refl
 space_in space (l ∷ ls) = ap (λ b. same_space space l.space || b) (space_in space ls)
 
@@ -66,7 +68,9 @@ given-last [] t = ap (λ ns. t.number ∷ ns) (none (places t.rows))
     none : (ns : List ℕ) → ns ++ [] ≡ ns
     none [] = refl
     none (n ∷ ns) = ap (λ ms. n ∷ ms) (none ns)
-given-last (u ∷ us) t = ap (λ ns. u.number ∷ places u.rows ++ ns) (given-last us t) ∙ sym (append_assoc (u.number ∷ places u.rows) (given us) (t.number ∷ places t.rows))
+given-last (u ∷ us) t =
+    ap (λ ns. u.number ∷ places u.rows ++ ns) (given-last us t)
+    ∙ sym (append_assoc (u.number ∷ places u.rows) (given us) (t.number ∷ places t.rows))
 
 next-last : (ts : List KeptTable) (t : KeptTable) (next above : ℕ) → next ≡ past 1 (given ts) → above ≡ past 0 (places t.rows)
     → max (max next (t.number + 1)) above ≡ past 1 (given (ts ++ t ∷ []))
@@ -92,17 +96,13 @@ may-next ks it kept so =
     let all = (so.loaded).tables in
     λ i. may_follow (length-same ks it.live.items all i) (so.least i) (spaces-same ks it.live.items all i) kept
 
-pub tables-begin : (it : Loading) → it.live.items ≡ [] → it.least ≡ 1 → it.next ≡ 1 → SoFar [] it
-tables-begin it none one first = record {
-  loaded = record { good = tt; tables = subst (λ (ls : List Live). AllZip IsTableOf [] (all_shown ls)) (sym none) tt; next = first };
-  least = one;
-}
-
-pub tables-go : (ks : List KeptTable) (kept : KeptTable) (old new : Loading) → SoFar ks old → AddsTable kept old new → SoFar (ks ++ kept ∷ []) new
+pub tables-go : (ks : List KeptTable) (kept : KeptTable) (old new : Loading) → SoFar ks old → AddsTable kept old new
+    → SoFar (ks ++ kept ∷ []) new
 tables-go ks kept old new so adds =
     let may = sym (may-next ks old kept so) ∙ adds.may in
     let own : Live = record { space = kept.space; table = adds.table } in
-    let all : all_shown new.live.items ≡ all_shown old.live.items ++ shown own ∷ [] = ap all_shown adds.live ∙ shown-last old.live.items own in
+    let all : all_shown new.live.items ≡ all_shown old.live.items ++ shown own ∷ [] =
+    ap all_shown adds.live ∙ shown-last old.live.items own in
     let zipped = zip-last IsTableOf ks (all_shown old.live.items) kept (shown own) (so.loaded).tables
     (record { number = (adds.has).number; space = refl; rows = (adds.has).rows; stamp = (adds.has).stamp }) in record {
       loaded = record {
@@ -136,11 +136,13 @@ first-here all ks rest kept place good is at = record {
     bad mine false may at = never-both false may refl
 
 -- a refusal of the next table is one of all
-pub tables-stop : (all ks rest : List KeptTable) (kept : KeptTable) (old : Loading) (refused : LoadRefused) → SoFar ks old → all ≡ ks ++ kept ∷ rest
+pub tables-stop : (all ks rest : List KeptTable) (kept : KeptTable) (old : Loading) (refused : LoadRefused) → SoFar ks old
+    → all ≡ ks ++ kept ∷ rest
     → RefusesTable old kept refused → Refuses all refused
 tables-stop all ks rest kept old refused so is refuses = told (may_be_next old kept) (sym (may-next ks old kept so)) refused refuses
   where
-    told : (b : Bool) → follows ks kept ≡ b → (e : LoadRefused) → MatchBool b (RefusesRows kept.number kept.rows e) (e ≡ BadKept kept.number 0) → Refuses all e
+    told : (b : Bool) → follows ks kept ≡ b → (e : LoadRefused)
+        → MatchBool b (RefusesRows kept.number kept.rows e) (e ≡ BadKept kept.number 0) → Refuses all e
     told true may KeeperFault at = absurd at
     told true may (BadKept number place) at =
         subst (λ n. FirstFault all n place) (sym at.0) (first-here all ks rest kept place (so.loaded).good is (rw may at.1))

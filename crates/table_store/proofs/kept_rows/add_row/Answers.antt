@@ -9,11 +9,13 @@ returns-in_err-row-clause-err c =
     rw (back.1, back.2) (λ is may. c.in_err-row.ensures.err is)
 
 pub insert-requires-clause-absent : goal.insert-requires-clause-absent
-insert-requires-clause-absent c = absent-key _ c.args.kept _ _ (sym c.may_stand.ensures ∙ c.if-not-may_stand.false) c.in_ok-row.ensures.ok.under
+insert-requires-clause-absent c =
+    absent-key _ c.args.kept _ _ (sym c.may_stand.ensures ∙ c.if-not-may_stand.false) c.in_ok-row.ensures.ok.under
 
 pub insert-requires-clause-above : goal.insert-requires-clause-above
 insert-requires-clause-above c = above-row _ c.args.kept _ (sym c.may_stand.ensures ∙ c.if-not-may_stand.false) c.requires
 
 pub returns-in-Ok-clause-ok : goal.returns-in-Ok-clause-ok
 returns-in-Ok-clause-ok c =
-    row-added _ c.args.kept _ _ _ _ (sym c.may_stand.ensures ∙ c.if-not-may_stand.false) c.in_ok-row.ensures.ok c.in-Ok.ensures.ok c.set_stamp.ensures
+    let may = sym c.may_stand.ensures ∙ c.if-not-may_stand.false in
+    row-added _ c.args.kept _ _ _ _ may c.in_ok-row.ensures.ok c.in-Ok.ensures.ok c.set_stamp.ensures

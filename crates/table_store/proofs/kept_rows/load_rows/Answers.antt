@@ -14,4 +14,6 @@ loop-row-preserved c = record {
 
 pub returns-in-Err-NotRow-clause-err : goal.returns-in-Err-NotRow-clause-err
 returns-in-Err-NotRow-clause-err c =
-    (refl, rows-stop _ _ _ _ c.in-Some.row _ _ c.loop-row.invariant.has (left-rest _ _ _ _ _ _ c.loop-row.invariant.left c.in-Some.ensures.steps.0) (c.in-Err-NotRow.ensures.err c.in-Err-NotRow.field-0-is))
+    let are = left-rest _ _ _ _ _ _ c.loop-row.invariant.left c.in-Some.ensures.steps.0 in
+    let bad = c.in-Err-NotRow.ensures.err c.in-Err-NotRow.field-0-is in
+    (refl, rows-stop _ _ _ _ c.in-Some.row _ _ c.loop-row.invariant.has are bad)

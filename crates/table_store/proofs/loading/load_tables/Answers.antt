@@ -12,4 +12,5 @@ loop-table-preserved c = record {
 pub returns-in_err-add_table-clause-err : goal.returns-in_err-add_table-clause-err
 returns-in_err-add_table-clause-err c =
     let back = err_from_is_err_and c.from_residual.result c.from_residual.ensures.1 in
-    rw (back.1, back.2) (tables-stop _ _ _ c.in-Some.table _ _ c.loop-table.invariant.so (left-rest _ _ _ _ _ _ c.loop-table.invariant.left c.in-Some.ensures.steps.0) c.in_err-add_table.ensures.err)
+    let are = left-rest _ _ _ _ _ _ c.loop-table.invariant.left c.in-Some.ensures.steps.0 in
+    rw (back.1, back.2) (tables-stop _ _ _ c.in-Some.table _ _ c.loop-table.invariant.so are c.in_err-add_table.ensures.err)

@@ -19,7 +19,8 @@ called held s n old new who call reply logged lawful sound = record {
   between = [];
   before = logged.before;
   after = logged.after;
-  seen = logged.seen ∙ ap (λ (es : List (Entry TableCall TableReply)). es ++ record { who = who; call = call; reply = reply; before = logged.before; after = logged.after } ∷ []) (sym (append-nil old.seen));
+  seen = logged.seen ∙ ap (λ (es : List (Entry TableCall TableReply)). es ++ record
+      { who = who; call = call; reply = reply; before = logged.before; after = logged.after } ∷ []) (sym (append-nil old.seen));
   own = logged.own ∙ ap (λ (es : List (Entry TableCall TableReply)). old.own ++ length es ∷ []) (sym (append-nil old.seen));
   alone = λ turn. refl;
   lawful = lawful;

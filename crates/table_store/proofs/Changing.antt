@@ -35,7 +35,8 @@ rows_changed (Drop m ∷ cs) rows = rows_changed cs rows
 rows_changed (Put m place key text ∷ cs) rows = rows_changed cs (put_row (record { place = place; key = key; text = text }) rows)
 rows_changed (Cut m key ∷ cs) rows = rows_changed cs (cut_row key rows)
 
-with-twice : (n : ℕ) (f g : List KeptRow → List KeptRow) (ts : List KeptTable) → with_rows n g (with_rows n f ts) ≡ with_rows n (λ rows. g (f rows)) ts
+with-twice : (n : ℕ) (f g : List KeptRow → List KeptRow) (ts : List KeptTable)
+    → with_rows n g (with_rows n f ts) ≡ with_rows n (λ rows. g (f rows)) ts
 with-twice n f g [] = refl
 with-twice n f g (t ∷ ts) = cases (t.number == n) refl (with-twice n f g ts)
   where
@@ -60,7 +61,8 @@ all-of n (Put m place key text ∷ cs) ts are =
     let f : List KeptRow → List KeptRow = put_row (record { place = place; key = key; text = text }) in
     ap (λ k. all_changed cs (with_rows k f ts)) are.0 ∙ all-of n cs (with_rows n f ts) are.1 ∙ with-twice n f (rows_changed cs) ts
 all-of n (Cut m key ∷ cs) ts are =
-    ap (λ k. all_changed cs (with_rows k (cut_row key) ts)) are.0 ∙ all-of n cs (with_rows n (cut_row key) ts) are.1 ∙ with-twice n (cut_row key) (rows_changed cs) ts
+    ap (λ k. all_changed cs (with_rows k (cut_row key) ts)) are.0 ∙ all-of n cs (with_rows n (cut_row key) ts) are.1
+    ∙ with-twice n (cut_row key) (rows_changed cs) ts
 
 are-append : (n : ℕ) (xs ys : List Change) → AreOf n xs → AreOf n ys → AreOf n (xs ++ ys)
 are-append n [] ys one other = other
@@ -86,7 +88,8 @@ are-cuts n (Remove key ∷ es) = (refl, are-cuts n es)
 are-for : (n place : ℕ) (rows : List Placed) (es : List Edit) (added : Option Row) → AreOf n (changes_for n place rows es added)
 are-for n place rows es None = are-append n (puts n rows es) (cuts n es) (are-puts n rows es) (are-cuts n es)
 are-for n place rows es (Some row) =
-    are-append n (puts n rows es ++ cuts n es) (put_of n place row ∷ []) (are-append n (puts n rows es) (cuts n es) (are-puts n rows es) (are-cuts n es)) (refl, tt)
+    are-append n (puts n rows es ++ cuts n es) (put_of n place row ∷ [])
+    (are-append n (puts n rows es) (cuts n es) (are-puts n rows es) (are-cuts n es)) (refl, tt)
 
 rows-append : (xs ys : List Change) (rows : List KeptRow) → rows_changed (xs ++ ys) rows ≡ rows_changed ys (rows_changed xs rows)
 rows-append [] ys rows = refl
@@ -99,14 +102,18 @@ rows-append (Cut m key ∷ xs) ys rows = rows-append xs ys (cut_row key rows)
 abbrev SameKeys : List Placed → List Placed → Type 0
 SameKeys first now = (key : List ℕ) → has_key key now ≡ has_key key first
 
-rows-put : (n : ℕ) (first now : List Placed) (es : List Edit) → SameKeys first now → rows_changed (puts n first es) (map kept_row now) ≡ map kept_row (all_replaced es now)
+rows-put : (n : ℕ) (first now : List Placed) (es : List Edit) → SameKeys first now
+    → rows_changed (puts n first es) (map kept_row now) ≡ map kept_row (all_replaced es now)
 rows-put n first now [] same = refl
-rows-put n first now (Replace row ∷ es) same = cases (has_key row.key first) refl (rows-put n first (replaced row now) es (λ key. key-replaced key row now ∙ same key))
+rows-put n first now (Replace row ∷ es) same =
+    cases (has_key row.key first) refl (rows-put n first (replaced row now) es (λ key. key-replaced key row now ∙ same key))
   where
-    cases : (b : Bool) → has_key row.key first ≡ b → rows_changed (puts n first es) (map kept_row (replaced row now)) ≡ map kept_row (all_replaced es (replaced row now))
+    cases : (b : Bool) → has_key row.key first ≡ b
+        → rows_changed (puts n first es) (map kept_row (replaced row now)) ≡ map kept_row (all_replaced es (replaced row now))
         → rows_changed (puts n first (Replace row ∷ es)) (map kept_row now) ≡ map kept_row (all_replaced es (replaced row now))
     cases true e rest = rw e (ap (rows_changed (puts n first es)) (put-there 0 row now (same row.key ∙ e)) ∙ rest)
-    cases false e rest = rw e (ap (λ ps. rows_changed (puts n first es) (map kept_row ps)) (sym (not-there row now (same row.key ∙ e))) ∙ rest)
+    cases false e rest = rw e (ap (λ ps. rows_changed (puts n first es) (map kept_row ps)) (sym (not-there row now (same row.key ∙ e)))
+        ∙ rest)
 rows-put n first now (Remove key ∷ es) same = rows-put n first now es same
 
 rows-cut : (n : ℕ) (es : List Edit) (now : List Placed) → rows_changed (cuts n es) (map kept_row now) ≡ map kept_row (all_removed es now)
@@ -114,7 +121,8 @@ rows-cut n [] now = refl
 rows-cut n (Replace row ∷ es) now = rows-cut n es now
 rows-cut n (Remove key ∷ es) now = ap (rows_changed (cuts n es)) (cut-there key now) ∙ rows-cut n es (removed key now)
 
-rows-edited : (n : ℕ) (es : List Edit) (ps : List Placed) → Distinct ps → rows_changed (puts n ps es ++ cuts n es) (map kept_row ps) ≡ map kept_row (edited es ps)
+rows-edited : (n : ℕ) (es : List Edit) (ps : List Placed) → Distinct ps
+    → rows_changed (puts n ps es ++ cuts n es) (map kept_row ps) ≡ map kept_row (edited es ps)
 rows-edited n es ps distinct =
     rows-append (puts n ps es) (cuts n es) (map kept_row ps)
     ∙ ap (rows_changed (cuts n es)) (rows-put n ps ps es (λ key. refl)) ∙ rows-cut n es (all_replaced es ps)
@@ -129,7 +137,8 @@ rows-for n place es (Some row) ps distinct none =
     ∙ put-new (record { place = place; row = row }) (edited es ps) (key-edited row.key es ps none)
 
 -- the keeper has what is kept of the changed table
-pub kept-for : (t : Table) (place : ℕ) (es : List Edit) (added : Option Row) (ts : List Table) → numbered t.number ts ≡ Some t → Distinct t.rows → has_added added t.rows ≡ false
+pub kept-for : (t : Table) (place : ℕ) (es : List Edit) (added : Option Row) (ts : List Table) → numbered t.number ts ≡ Some t
+    → Distinct t.rows → has_added added t.rows ≡ false
     → all_changed (changes_for t.number place t.rows es added) (kept_tables ts)
     ≡ kept_tables (put (record t { stamp = place; rows = edited es t.rows ++ added_at place added }) ts)
 kept-for t place es added ts live distinct none =

@@ -54,10 +54,12 @@ shown-last [] new = refl
 shown-last (l ∷ ls) new = ap (λ rest. shown l ∷ rest) (shown-last ls new)
 
 -- the list with a table that was made so
-list-last : (live after : List Live) (space : Space) (table made : Listed) → table ≡ made → after ≡ live ++ record { space = space; table = table } ∷ []
+list-last : (live after : List Live) (space : Space) (table made : Listed) → table ≡ made
+    → after ≡ live ++ record { space = space; table = table } ∷ []
     → all_shown after ≡ all_shown live ++ shown (record { space = space; table = made }) ∷ []
 list-last live after space table made is came =
-    ap all_shown came ∙ ap (λ (t : Listed). all_shown (live ++ record { space = space; table = t } ∷ [])) is ∙ shown-last live (record { space = space; table = made })
+    ap all_shown came ∙ ap (λ (t : Listed). all_shown (live ++ record { space = space; table = t } ∷ [])) is
+    ∙ shown-last live (record { space = space; table = made })
 
 module _ (live : List Live) (next : ℕ) (space : Space) (none : named space (all_shown live) ≡ None) where
   abbrev pub s : Tables
@@ -73,14 +75,16 @@ module _ (live : List Live) (next : ℕ) (space : Space) (none : named space (al
       stays (Some t) e = refl
 
   pub create-spent : length live < 10000 → 9223372036854775807 < next → (faults : ℕ) → Ran faults faults s s (call.Create space) reply.Spent
-  create-spent room le faults = record { replied = (rw (none, has-room live next room, spends next le) refl, refl); after = sym (stays (named space s.live) none) }
+  create-spent room le faults = record
+      { replied = (rw (none, has-room live next room, spends next le) refl, refl); after = sym (stays (named space s.live) none) }
     where
       stays : (o : Option Table) → o ≡ None → (creates space s o).tables ≡ s
       stays None e = rw (has-room live next room, spends next le) refl
       stays (Some t) e = refl
 
   pub create-ran : (after : List Live) (table : Listed) (before now : ℕ) → length live < 10000 → next ≤ 9223372036854775807
-      → table ≡ record { number = next; stamp = next; rows = [] } → after ≡ live ++ record { space = space; table = table } ∷ [] → now ≡ before
+      → table ≡ record { number = next; stamp = next; rows = [] } → after ≡ live ++ record { space = space; table = table } ∷ []
+      → now ≡ before
       → Ran before now s (record { live = all_shown after; next = next + 1 }) (call.Create space) (reply.Inserted next next)
   create-ran after table before now room left is came same =
       rw (same, list-last live after space table (record { number = next; stamp = next; rows = [] }) is came)
@@ -90,14 +94,17 @@ module _ (live : List Live) (next : ℕ) (space : Space) (none : named space (al
       goes None e = rw (has-room live next room, leaves next left) refl
       goes (Some t) e = absurd cc
 
-  pub create-tells : (after : List Live) (kept : Space) (table : Listed) (told new : Option (List KeptTable)) (made : Unit {0}) → kept ≡ space
+  pub create-tells : (after : List Live) (kept : Space) (table : Listed) (told new : Option (List KeptTable)) (made : Unit {0})
+      → kept ≡ space
       → table ≡ record { number = next; stamp = next; rows = [] } → after ≡ live ++ record { space = space; table = table } ∷ []
-      → Goes told new (change.Create next kept ∷ []) (Ok made) → Tells told s → Tells new (record { live = all_shown after; next = next + 1 })
+      → Goes told new (change.Create next kept ∷ []) (Ok made) → Tells told s
+      → Tells new (record { live = all_shown after; next = next + 1 })
   create-tells after kept table told new made copied is came goes tells =
       let fresh : Listed = record { number = next; stamp = next; rows = [] } in
       told-changed told new (change.Create next kept ∷ []) made s (record { live = all_shown after; next = next + 1 }) goes tells refl
       (ap (λ (x : Space). kept_tables (all_shown live) ++ record { number = next; space = x; rows = [] } ∷ []) copied
-      ∙ create-there (shown (record { space = space; table = fresh })) (all_shown live) ∙ ap kept_tables (sym (list-last live after space table fresh is came)))
+      ∙ create-there (shown (record { space = space; table = fresh })) (all_shown live)
+      ∙ ap kept_tables (sym (list-last live after space table fresh is came)))
 
   pub create-refused : (before now : ℕ) (refused : KeepError) → length live < 10000 → next ≤ 9223372036854775807
       → HasCause before now (failure_of {T = Unit {0}} (Err refused)) → Ran before now s s (call.Create space) (refusal_of refused)
@@ -114,8 +121,10 @@ module _ (live : List Live) (next : ℕ) (space : Space) (none : named space (al
         stays None e = rw (is-full live next le) refl
         stays (Some t) e = absurd cc
 
-    pub with-spent : length live < 10000 → 9223372036854775807 ≤ next → (faults : ℕ) → Ran faults faults s s (call.InsertNamed space row) reply.Spent
-    with-spent room le faults = record { replied = (rw (none, has-room live next room, spends-two next le) refl, refl); after = sym (stays (named space s.live) none) }
+    pub with-spent : length live < 10000 → 9223372036854775807 ≤ next → (faults : ℕ)
+        → Ran faults faults s s (call.InsertNamed space row) reply.Spent
+    with-spent room le faults = record
+        { replied = (rw (none, has-room live next room, spends-two next le) refl, refl); after = sym (stays (named space s.live) none) }
       where
         stays : (o : Option Table) → o ≡ None → (inserts_named space row s o).tables ≡ s
         stays None e = rw (has-room live next room, spends-two next le) refl
@@ -127,17 +136,22 @@ module _ (live : List Live) (next : ℕ) (space : Space) (none : named space (al
 
     pub with-ran : (after : List Live) (table : Listed) (before now : ℕ) → length live < 10000 → next < 9223372036854775807
         → table ≡ first → after ≡ live ++ record { space = space; table = table } ∷ [] → now ≡ before
-        → Ran before now s (record { live = all_shown after; next = next + 2 }) (call.InsertNamed space row) (reply.Inserted next (next + 1))
+        → Ran before now s (record { live = all_shown after; next = next + 2 }) (call.InsertNamed space row) (reply.Inserted next
+        (next + 1))
     with-ran after table before now room left is came same =
         rw (same, list-last live after space table first is came)
-        (record { replied = (rw (none, has-room live next room, leaves-two next left) refl, refl); after = sym (goes (named space s.live) none) })
+        (record {
+          replied = (rw (none, has-room live next room, leaves-two next left) refl, refl);
+          after = sym (goes (named space s.live) none);
+        })
       where
         goes : (o : Option Table) → o ≡ None → (inserts_named space row s o).tables ≡ created_with space row s
         goes None e = rw (has-room live next room, leaves-two next left) refl
         goes (Some t) e = absurd cc
 
     pub with-refused : (before now : ℕ) (refused : KeepError) → length live < 10000 → next < 9223372036854775807
-        → HasCause before now (failure_of {T = Unit {0}} (Err refused)) → Ran before now s s (call.InsertNamed space row) (refusal_of refused)
+        → HasCause before now (failure_of {T = Unit {0}} (Err refused))
+        → Ran before now s s (call.InsertNamed space row) (refusal_of refused)
     with-refused before now refused room left cause =
         refused-ran s (call.InsertNamed space row) before now refused (rw (none, has-room live next room, leaves-two next left) refl) cause
 
@@ -147,19 +161,27 @@ fresh-number n [] sound = refl
 fresh-number n (t ∷ ts) sound = rw (number-apart n t.number (sound.0).number) (fresh-number n ts sound.2)
 
 with-new : (n : ℕ) (space : Space) (rows : List KeptRow) (f : List KeptRow → List KeptRow) (ts : List Table) → numbered n ts ≡ None
-    → with_rows n f (kept_tables ts ++ record { number = n; space = space; rows = rows } ∷ []) ≡ kept_tables ts ++ record { number = n; space = space; rows = f rows } ∷ []
+    → with_rows n f (kept_tables ts ++ record { number = n; space = space; rows = rows } ∷ []) ≡ kept_tables ts ++ record {
+      number = n;
+      space = space;
+      rows = f rows;
+    } ∷ []
 with-new n space rows f [] none = rw (number-same n) refl
 with-new n space rows f (t ∷ ts) none = cases (n == t.number) refl (with-new n space rows f ts)
   where
     cases : (b : Bool) → (n == t.number) ≡ b
-        → (numbered n ts ≡ None → with_rows n f (kept_tables ts ++ record { number = n; space = space; rows = rows } ∷ []) ≡ kept_tables ts ++ record { number = n; space = space; rows = f rows } ∷ [])
-        → with_rows n f (kept_tables (t ∷ ts) ++ record { number = n; space = space; rows = rows } ∷ []) ≡ kept_tables (t ∷ ts) ++ record { number = n; space = space; rows = f rows } ∷ []
+        → (numbered n ts ≡ None → with_rows n f (kept_tables ts ++ record { number = n; space = space; rows = rows } ∷ []) ≡ kept_tables
+        ts ++ record { number = n; space = space; rows = f rows } ∷ [])
+        → with_rows n f (kept_tables (t ∷ ts) ++ record { number = n; space = space; rows = rows } ∷ []) ≡ kept_tables (t ∷
+        ts) ++ record { number = n; space = space; rows = f rows } ∷ []
     cases true e rest = let clash : Some t ≡ None = rw e at none in absurd cc
     cases false e rest = rw (number-swaps t.number n, e) (ap (λ ks. kept_table t ∷ ks) (rest (rw e at none)))
 
-pub with-tells : (live after : List Live) (next : ℕ) (space copied : Space) (row : Row) (put : Change) (table : Listed) (told new : Option (List KeptTable)) (made : Unit {0})
+pub with-tells : (live after : List Live) (next : ℕ) (space copied : Space) (row : Row) (put : Change) (table : Listed) (told new :
+    Option (List KeptTable)) (made : Unit {0})
     → Sound (record { live = all_shown live; next = next }) → IsSound row → copied ≡ space → put ≡ put_of next (next + 1) row
-    → table ≡ record { number = next; stamp = next + 1; rows = record { place = next + 1; row = row } ∷ [] } → after ≡ live ++ record { space = space; table = table } ∷ []
+    → table ≡ record { number = next; stamp = next + 1; rows = record { place = next + 1; row = row } ∷ [] }
+    → after ≡ live ++ record { space = space; table = table } ∷ []
     → Goes told new (change.Create next copied ∷ put ∷ []) (Ok made) → Tells told (record { live = all_shown live; next = next })
     → Tells new (record { live = all_shown after; next = next + 2 })
 with-tells live after next space copied row put table told new made sound own is_space is_put is came goes tells =
@@ -169,14 +191,18 @@ with-tells live after next space copied row put table told new made sound own is
     told-changed told new changes made (record { live = all_shown live; next = next }) (record { live = all_shown after; next = next + 2 })
     (subst (λ (cs : List Change). Goes told new cs (Ok made)) same goes) tells
     (ap (λ c. change.Create next space ∷ c ∷ []) (plain-put next (next + 1) row own))
-    (with-new next space [] (put_row (kept_row (record { place = next + 1; row = row }))) (all_shown live) (fresh-number next (all_shown live) sound.tables)
-    ∙ create-there (shown (record { space = space; table = one })) (all_shown live) ∙ ap kept_tables (sym (list-last live after space table one is came)))
+    (with-new next space [] (put_row (kept_row (record { place = next + 1; row = row }))) (all_shown live)
+    (fresh-number next (all_shown live) sound.tables)
+    ∙ create-there (shown (record { space = space; table = one })) (all_shown live)
+    ∙ ap kept_tables (sym (list-last live after space table one is came)))
 
 -- a table that was made, given a row and stamped
-pub made-table : (a b d : Listed) (n place : ℕ) (row : Row) → a ≡ record { number = n; stamp = n; rows = [] } → b ≡ record a { rows = a.rows ++ record { place = place; row = row } ∷ [] }
+pub made-table : (a b d : Listed) (n place : ℕ) (row : Row) → a ≡ record { number = n; stamp = n; rows = [] }
+    → b ≡ record a { rows = a.rows ++ record { place = place; row = row } ∷ [] }
     → d ≡ record b { stamp = place } → d ≡ record { number = n; stamp = place; rows = record { place = place; row = row } ∷ [] }
 made-table a b d n place row first second third =
-    third ∙ ap (λ (x : Listed). record x { stamp = place }) (second ∙ ap (λ (x : Listed). record x { rows = x.rows ++ record { place = place; row = row } ∷ [] }) first)
+    third ∙ ap (λ (x : Listed). record x { stamp = place })
+    (second ∙ ap (λ (x : Listed). record x { rows = x.rows ++ record { place = place; row = row } ∷ [] }) first)
 
 pub pushed : (xs ys zs : List Live) (x : Live) → zs ≡ ys ++ x ∷ [] → ys ≡ xs → zs ≡ xs ++ x ∷ []
 pushed xs ys zs x came same = came ∙ ap (λ (l : List Live). l ++ x ∷ []) same
@@ -185,5 +211,6 @@ pushed xs ys zs x came same = came ∙ ap (λ (l : List Live). l ++ x ∷ []) sa
 pub insert-named : (s : Tables) (space : Space) (row : Row) (n : ℕ) (t : Table) → Sound s → named space s.live ≡ Some t → t.number ≡ n
     → meant s (call.Insert n row) ≡ meant s (call.InsertNamed space row)
 insert-named s space row n t sound live is =
-    let own : numbered n s.live ≡ Some t = subst (λ k. numbered k s.live ≡ Some t) is (numbered-named s.next space t s.live sound.tables live) in
+    let own : numbered n s.live ≡ Some t =
+    subst (λ k. numbered k s.live ≡ Some t) is (numbered-named s.next space t s.live sound.tables live) in
     ap (inserts_numbered row s) own ∙ ap (inserts_named space row s) (sym live)

@@ -36,7 +36,8 @@ sound-distinct n (p ∷ ps) sound = (sound.1, sound-distinct n ps sound.3)
 -- the next number is above all places
 pub sound-above : (n : ℕ) (ps : List Placed) → SoundRows n ps → above n ps ≡ true
 sound-above n [] sound = refl
-sound-above n (p ∷ ps) sound = let first : nat_lt p.place n ≡ true = let less = sound.2 in grind (arith, nat_tests) in rw first (sound-above n ps sound.3)
+sound-above n (p ∷ ps) sound = let first : nat_lt p.place n ≡ true = let less = sound.2 in grind (arith, nat_tests) in
+    rw first (sound-above n ps sound.3)
 
 distinct-replaced : (row : Row) (ps : List Placed) → Distinct ps → Distinct (replaced row ps)
 distinct-replaced row [] distinct = tt
@@ -57,11 +58,13 @@ distinct-removed key (p ∷ ps) distinct = cases (bytes_eq key p.row.key) refl (
 -- what is not there is not replaced
 pub not-there : (row : Row) (ps : List Placed) → has_key row.key ps ≡ false → replaced row ps ≡ ps
 not-there row [] none = refl
-not-there row (p ∷ ps) none = let parts = or_parts (bytes_eq row.key p.row.key) (has_key row.key ps) none in rw parts.0 (ap (λ rs. p ∷ rs) (not-there row ps parts.1))
+not-there row (p ∷ ps) none = let parts = or_parts (bytes_eq row.key p.row.key) (has_key row.key ps) none in
+    rw parts.0 (ap (λ rs. p ∷ rs) (not-there row ps parts.1))
 
 pub not-out : (key : List ℕ) (ps : List Placed) → has_key key ps ≡ false → removed key ps ≡ ps
 not-out key [] none = refl
-not-out key (p ∷ ps) none = let parts = or_parts (bytes_eq key p.row.key) (has_key key ps) none in rw parts.0 (ap (λ rs. p ∷ rs) (not-out key ps parts.1))
+not-out key (p ∷ ps) none = let parts = or_parts (bytes_eq key p.row.key) (has_key key ps) none in
+    rw parts.0 (ap (λ rs. p ∷ rs) (not-out key ps parts.1))
 
 -- ---- first all replacements, then all removals
 
@@ -83,7 +86,8 @@ swap : (row : Row) (key : List ℕ) (ps : List Placed) → Distinct ps → repla
 swap row key [] distinct = refl
 swap row key (p ∷ ps) distinct = cases (bytes_eq key p.row.key) refl (bytes_eq row.key p.row.key) refl (swap row key ps distinct.1)
   where
-    cases : (a : Bool) → bytes_eq key p.row.key ≡ a → (b : Bool) → bytes_eq row.key p.row.key ≡ b → replaced row (removed key ps) ≡ removed key (replaced row ps)
+    cases : (a : Bool) → bytes_eq key p.row.key ≡ a → (b : Bool) → bytes_eq row.key p.row.key ≡ b
+        → replaced row (removed key ps) ≡ removed key (replaced row ps)
         → replaced row (removed key (p ∷ ps)) ≡ removed key (replaced row (p ∷ ps))
     cases true d true e rest =
         let one : row.key ≡ p.row.key = equal-key e in
@@ -96,32 +100,38 @@ swap row key (p ∷ ps) distinct = cases (bytes_eq key p.row.key) refl (bytes_eq
         rw (d, e, both) refl
     cases false d false e rest = rw (d, e, d) (ap (λ rs. p ∷ rs) rest)
 
-wait : (es : List Edit) (key : List ℕ) (ps : List Placed) → Distinct ps → all_replaced es (removed key ps) ≡ removed key (all_replaced es ps)
+wait : (es : List Edit) (key : List ℕ) (ps : List Placed) → Distinct ps
+    → all_replaced es (removed key ps) ≡ removed key (all_replaced es ps)
 wait [] key ps distinct = refl
-wait (Replace row ∷ es) key ps distinct = ap (all_replaced es) (swap row key ps distinct) ∙ wait es key (replaced row ps) (distinct-replaced row ps distinct)
+wait (Replace row ∷ es) key ps distinct = ap (all_replaced es) (swap row key ps distinct)
+    ∙ wait es key (replaced row ps) (distinct-replaced row ps distinct)
 wait (Remove other ∷ es) key ps distinct = wait es key ps distinct
 
 pub edited-parts : (es : List Edit) (ps : List Placed) → Distinct ps → edited es ps ≡ all_removed es (all_replaced es ps)
 edited-parts [] ps distinct = refl
 edited-parts (Replace row ∷ es) ps distinct = edited-parts es (replaced row ps) (distinct-replaced row ps distinct)
-edited-parts (Remove key ∷ es) ps distinct = edited-parts es (removed key ps) (distinct-removed key ps distinct) ∙ ap (all_removed es) (wait es key ps distinct)
+edited-parts (Remove key ∷ es) ps distinct = edited-parts es (removed key ps) (distinct-removed key ps distinct)
+    ∙ ap (all_removed es) (wait es key ps distinct)
 
 others-append : (key : List ℕ) (xs ys : List Edit) → others key (xs ++ ys) ≡ others key xs ++ others key ys
 others-append key [] ys = refl
 others-append key (x ∷ xs) ys = cases (bytes_eq key (key_of x)) refl (others-append key xs ys)
   where
-    cases : (b : Bool) → bytes_eq key (key_of x) ≡ b → others key (xs ++ ys) ≡ others key xs ++ others key ys → others key ((x ∷ xs) ++ ys) ≡ others key (x ∷ xs) ++ others key ys
+    cases : (b : Bool) → bytes_eq key (key_of x) ≡ b → others key (xs ++ ys) ≡ others key xs ++ others key ys
+        → others key ((x ∷ xs) ++ ys) ≡ others key (x ∷ xs) ++ others key ys
     cases true e rest = rw e rest
     cases false e rest = rw e (ap (λ es. x ∷ es) rest)
 
 -- one edit more, if it is of another key
 pub others-push : (key : List ℕ) (es : List Edit) (e : Edit) (rows : List Placed)
     → edited (others key (es ++ e ∷ [])) rows ≡ edited (others key (e ∷ [])) (edited (others key es) rows)
-others-push key es e rows = ap (λ xs. edited xs rows) (others-append key es (e ∷ [])) ∙ edited-append (others key es) (others key (e ∷ [])) rows
+others-push key es e rows = ap (λ xs. edited xs rows) (others-append key es (e ∷ []))
+    ∙ edited-append (others key es) (others key (e ∷ [])) rows
 
 -- ---- a row that stands last already
 
-replaced-last : (row : Row) (ps : List Placed) (q : Placed) → bytes_eq q.row.key row.key ≡ false → replaced row (ps ++ q ∷ []) ≡ replaced row ps ++ q ∷ []
+replaced-last : (row : Row) (ps : List Placed) (q : Placed) → bytes_eq q.row.key row.key ≡ false
+    → replaced row (ps ++ q ∷ []) ≡ replaced row ps ++ q ∷ []
 replaced-last row [] q apart = rw (bytes-swap q.row.key row.key apart) refl
 replaced-last row (p ∷ ps) q apart = cases (bytes_eq row.key p.row.key) refl (replaced-last row ps q apart)
   where
@@ -130,7 +140,8 @@ replaced-last row (p ∷ ps) q apart = cases (bytes_eq row.key p.row.key) refl (
     cases true e rest = rw e refl
     cases false e rest = rw e (ap (λ rs. p ∷ rs) rest)
 
-removed-last : (key : List ℕ) (ps : List Placed) (q : Placed) → bytes_eq q.row.key key ≡ false → removed key (ps ++ q ∷ []) ≡ removed key ps ++ q ∷ []
+removed-last : (key : List ℕ) (ps : List Placed) (q : Placed) → bytes_eq q.row.key key ≡ false
+    → removed key (ps ++ q ∷ []) ≡ removed key ps ++ q ∷ []
 removed-last key [] q apart = rw (bytes-swap q.row.key key apart) refl
 removed-last key (p ∷ ps) q apart = cases (bytes_eq key p.row.key) refl (removed-last key ps q apart)
   where
@@ -151,7 +162,8 @@ others-last (Replace row ∷ es) ps q none = cases (bytes_eq q.row.key row.key) 
     cases true e rest =
         let same : replaced row ps ≡ ps = not-there row ps (subst (λ k. has_key k ps ≡ false) (equal-key e) none) in
         rw e (rest ps none ∙ ap (λ rs. edited es rs ++ q ∷ []) (sym same))
-    cases false e rest = rw e (ap (edited (others q.row.key es)) (replaced-last row ps q e) ∙ rest (replaced row ps) (key-replaced q.row.key row ps ∙ none))
+    cases false e rest = rw e (ap (edited (others q.row.key es)) (replaced-last row ps q e)
+        ∙ rest (replaced row ps) (key-replaced q.row.key row ps ∙ none))
 others-last (Remove key ∷ es) ps q none = cases (bytes_eq q.row.key key) refl (λ rows. others-last es rows q)
   where
     cases : (b : Bool) → bytes_eq q.row.key key ≡ b
@@ -160,4 +172,5 @@ others-last (Remove key ∷ es) ps q none = cases (bytes_eq q.row.key key) refl 
     cases true e rest =
         let same : removed key ps ≡ ps = not-out key ps (subst (λ k. has_key k ps ≡ false) (equal-key e) none) in
         rw e (rest ps none ∙ ap (λ rs. edited es rs ++ q ∷ []) (sym same))
-    cases false e rest = rw e (ap (edited (others q.row.key es)) (removed-last key ps q e) ∙ rest (removed key ps) (key-removed q.row.key key ps none))
+    cases false e rest = rw e (ap (edited (others q.row.key es)) (removed-last key ps q e)
+        ∙ rest (removed key ps) (key-removed q.row.key key ps none))

@@ -18,7 +18,8 @@ use Rattle.table_store.specs.Kept.{again, plain_text, plain_change}
 pub reads : (row : Row) → IsSound row → read_json row.text ≡ Some row.json
 reads row sound =
     let again = rows_read_again sound.doc (sound.json).stored (sound.json).typed in
-    ap read_json (sound.text ∙ ap (λ j. compact_text (data_of j)) (sym (sound.json).row_is)) ∙ again.again ∙ ap (λ j. Some j) (sound.json).row_is
+    ap read_json (sound.text ∙ ap (λ j. compact_text (data_of j)) (sym (sound.json).row_is)) ∙ again.again
+    ∙ ap (λ j. Some j) (sound.json).row_is
 
 pub plain-sound : (row : Row) → IsSound row → plain_text row.text ≡ row.text
 plain-sound row sound = ap again (reads row sound) ∙ sym sound.text
@@ -41,7 +42,8 @@ plain-cuts n [] = refl
 plain-cuts n (Replace row ∷ es) = plain-cuts n es
 plain-cuts n (Remove key ∷ es) = ap (λ cs. Cut n key ∷ cs) (plain-cuts n es)
 
-plain-both : (n : ℕ) (rows : List Placed) (es : List Edit) → SoundEdits es → map plain_change (puts n rows es ++ cuts n es) ≡ puts n rows es ++ cuts n es
+plain-both : (n : ℕ) (rows : List Placed) (es : List Edit) → SoundEdits es
+    → map plain_change (puts n rows es ++ cuts n es) ≡ puts n rows es ++ cuts n es
 plain-both n rows es sound = map-append plain_change (puts n rows es) (cuts n es) ∙ (λ i. plain-puts n rows es sound i ++ plain-cuts n es i)
 
 pub plain-for : (n place : ℕ) (rows : List Placed) (es : List Edit) (added : Option Row) → SoundEdits es → SoundAdded added

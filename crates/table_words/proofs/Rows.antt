@@ -18,7 +18,8 @@ pub bytes-swap : (a b : List ℕ) → bytes_eq a b ≡ false → bytes_eq b a �
 bytes-swap a b apart = cases (bytes_eq b a) refl
   where
     cases : (x : Bool) → bytes_eq b a ≡ x → bytes_eq b a ≡ false
-    cases true e = let same = (bytes_eq-Decides b a).0 e in let yes : bytes_eq a b ≡ true = (bytes_eq-Decides a b).1 (sym same) in absurd (cc (yes, apart))
+    cases true e = let same = (bytes_eq-Decides b a).0 e in let yes : bytes_eq a b ≡ true = (bytes_eq-Decides a b).1 (sym same) in
+        absurd (cc (yes, apart))
     cases false e = e
 
 -- a later next number
@@ -31,7 +32,8 @@ pub key-replaced : (key : List ℕ) (row : Row) (ps : List Placed) → has_key k
 key-replaced key row [] = refl
 key-replaced key row (p ∷ ps) = cases (bytes_eq row.key p.row.key) refl (key-replaced key row ps)
   where
-    cases : (b : Bool) → bytes_eq row.key p.row.key ≡ b → has_key key (replaced row ps) ≡ has_key key ps → has_key key (replaced row (p ∷ ps)) ≡ has_key key (p ∷ ps)
+    cases : (b : Bool) → bytes_eq row.key p.row.key ≡ b → has_key key (replaced row ps) ≡ has_key key ps
+        → has_key key (replaced row (p ∷ ps)) ≡ has_key key (p ∷ ps)
     cases true e rest = rw e (ap (λ k. bytes_eq key k || has_key key ps) ((bytes_eq-Decides row.key p.row.key).0 e))
     cases false e rest = rw e (ap (λ b. bytes_eq key p.row.key || b) rest)
 
@@ -40,15 +42,22 @@ sound-replaced n row [] is sound = tt
 sound-replaced n row (p ∷ ps) is sound = cases (bytes_eq row.key p.row.key) refl (sound-replaced n row ps is sound.3)
   where
     cases : (b : Bool) → bytes_eq row.key p.row.key ≡ b → SoundRows n (replaced row ps) → SoundRows n (replaced row (p ∷ ps))
-    cases true e rest = rw e (is, subst (λ k. has_key k ps ≡ false) (sym ((bytes_eq-Decides row.key p.row.key).0 e)) sound.1, sound.2, sound.3)
+    cases true e rest = rw e (
+      is,
+      subst (λ k. has_key k ps ≡ false) (sym ((bytes_eq-Decides row.key p.row.key).0 e)) sound.1,
+      sound.2,
+      sound.3,
+    )
     cases false e rest = rw e (sound.0, key-replaced p.row.key row ps ∙ sound.1, sound.2, rest)
 
 -- a key that is absent stays so
 pub key-removed : (key other : List ℕ) (ps : List Placed) → has_key key ps ≡ false → has_key key (removed other ps) ≡ false
 key-removed key other [] none = refl
-key-removed key other (p ∷ ps) none = let parts = or_parts (bytes_eq key p.row.key) (has_key key ps) none in cases parts (bytes_eq other p.row.key) refl (key-removed key other ps parts.1)
+key-removed key other (p ∷ ps) none = let parts = or_parts (bytes_eq key p.row.key) (has_key key ps) none in
+    cases parts (bytes_eq other p.row.key) refl (key-removed key other ps parts.1)
   where
-    cases : (bytes_eq key p.row.key ≡ false) × (has_key key ps ≡ false) → (b : Bool) → bytes_eq other p.row.key ≡ b → has_key key (removed other ps) ≡ false → has_key key (removed other (p ∷ ps)) ≡ false
+    cases : (bytes_eq key p.row.key ≡ false) × (has_key key ps ≡ false) → (b : Bool) → bytes_eq other p.row.key ≡ b
+        → has_key key (removed other ps) ≡ false → has_key key (removed other (p ∷ ps)) ≡ false
     cases parts true e rest = rw e parts.1
     cases parts false e rest = rw e (or_from (bytes_eq key p.row.key) (has_key key (removed other ps)) parts.0 rest)
 
@@ -71,11 +80,14 @@ sound-edited n (Replace row ∷ es) ps are sound = sound-edited n es (replaced r
 sound-edited n (Remove key ∷ es) ps are sound = sound-edited n es (removed key ps) are (sound-removed n key ps sound)
 
 -- a row with a new key goes last
-key-last : (key : List ℕ) (ps : List Placed) (p : Placed) → has_key key ps ≡ false → bytes_eq key p.row.key ≡ false → has_key key (ps ++ p ∷ []) ≡ false
+key-last : (key : List ℕ) (ps : List Placed) (p : Placed) → has_key key ps ≡ false → bytes_eq key p.row.key ≡ false
+    → has_key key (ps ++ p ∷ []) ≡ false
 key-last key [] p none apart = or_from (bytes_eq key p.row.key) false apart refl
-key-last key (q ∷ qs) p none apart = let parts = or_parts (bytes_eq key q.row.key) (has_key key qs) none in or_from (bytes_eq key q.row.key) (has_key key (qs ++ p ∷ [])) parts.0 (key-last key qs p parts.1 apart)
+key-last key (q ∷ qs) p none apart = let parts = or_parts (bytes_eq key q.row.key) (has_key key qs) none in
+    or_from (bytes_eq key q.row.key) (has_key key (qs ++ p ∷ [])) parts.0 (key-last key qs p parts.1 apart)
 
-pub sound-last : (n : ℕ) (ps : List Placed) (p : Placed) → IsSound p.row → has_key p.row.key ps ≡ false → p.place < n → SoundRows n ps → SoundRows n (ps ++ p ∷ [])
+pub sound-last : (n : ℕ) (ps : List Placed) (p : Placed) → IsSound p.row → has_key p.row.key ps ≡ false → p.place < n → SoundRows n ps
+    → SoundRows n (ps ++ p ∷ [])
 sound-last n [] p is none less sound = (is, refl, less, tt)
 sound-last n (q ∷ qs) p is none less sound =
     let parts = or_parts (bytes_eq p.row.key q.row.key) (has_key p.row.key qs) none in
@@ -85,7 +97,11 @@ append-none : {X : Type 0} (xs : List X) → xs ++ [] ≡ xs
 append-none [] = refl
 append-none (x ∷ xs) = ap (λ ys. x ∷ ys) (append-none xs)
 
-pub sound-added : (n : ℕ) (es : List Edit) (added : Option Row) (ps : List Placed) → SoundEdits es → SoundAdded added → has_added added ps ≡ false → SoundRows n ps → SoundRows (n + 1) (edited es ps ++ added_at n added)
-sound-added n es None ps are is none sound = subst (SoundRows (n + 1)) (sym (append-none (edited es ps))) (rows-later n (n + 1) (edited es ps) (omega arith) (sound-edited n es ps are sound))
+pub sound-added : (n : ℕ) (es : List Edit) (added : Option Row) (ps : List Placed) → SoundEdits es → SoundAdded added
+    → has_added added ps ≡ false → SoundRows n ps → SoundRows (n + 1) (edited es ps ++ added_at n added)
+sound-added n es None ps are is none sound =
+    subst (SoundRows (n + 1)) (sym (append-none (edited es ps)))
+    (rows-later n (n + 1) (edited es ps) (omega arith) (sound-edited n es ps are sound))
 sound-added n es (Some row) ps are is none sound =
-    sound-last (n + 1) (edited es ps) (record { place = n; row = row }) is (key-edited row.key es ps none) (omega arith) (rows-later n (n + 1) (edited es ps) (omega arith) (sound-edited n es ps are sound))
+    sound-last (n + 1) (edited es ps) (record { place = n; row = row }) is (key-edited row.key es ps none) (omega arith)
+    (rows-later n (n + 1) (edited es ps) (omega arith) (sound-edited n es ps are sound))

@@ -25,7 +25,8 @@ after s h = replay tables_after s h
 
 -- from sound tables a legal history leads to sound ones, and keeps what has older stamps and numbers
 abbrev pub SoundAfter : Type 0
-SoundAfter = (s : Tables) (faults : ℕ) (h : History) → Sound s → legal tstep tables_after s faults h → Sound (after s h) × Kept s (after s h)
+SoundAfter = (s : Tables) (faults : ℕ) (h : History) → Sound s → legal tstep tables_after s faults h
+    → Sound (after s h) × Kept s (after s h)
 
 -- where the table of a number has one stamp at two moments of a history, it has the same rows at both
 abbrev pub StampsTellRows : Type 0

@@ -9,6 +9,8 @@ use Rattle.table_words.specs.declared.call.TableReply.TheVariants as reply
 use Rattle.table_words.specs.Tables.{Tables}
 use Rattle.table_words.specs.Sound.{Sound}
 use Rattle.table_words.specs.Step.{replies, tables_after}
+use Rattle.table_store.specs.declared.live.LiveTables.{LiveTables}
+use Rattle.table_store.specs.Found.{state_of}
 use Rattle.table_store.specs.Kept.{Tells}
 
 -- tables that may be called
@@ -21,6 +23,22 @@ pub record Ran (before now : ℕ) (s t : Tables) (c : TableCall) (r : TableReply
   pub replied : replies s c r before now
   pub after : t ≡ tables_after s c r
 
+-- a call that asks no keeper and changes nothing
+abbrev pub OnlyReads : Tables → TableCall → TableReply → Type 0
+OnlyReads s c r = (faults : ℕ) → Ran faults faults s s c r
+
+-- ---- of the tables in memory with their keeper
+
+abbrev pub AreReady : {K : Type 0} → (K → Option (List KeptTable)) → LiveTables K → Type 0
+AreReady told tables = IsReady (told tables.keeper) (state_of tables)
+
+abbrev pub RanOn : {K : Type 0} → (K → ℕ) → LiveTables K → LiveTables K → TableCall → TableReply → Type 0
+RanOn faults old new c r = Ran (faults old.keeper) (faults new.keeper) (state_of old) (state_of new) c r
+
+abbrev pub StillTells : {K : Type 0} → (K → Option (List KeptTable)) → LiveTables K → Type 0
+StillTells told tables = Tells (told tables.keeper) (state_of tables)
+
+-- what is replied where the keeper refuses
 abbrev pub refusal_of : KeepError → TableReply
 refusal_of Failed = reply.Fault
 refusal_of NoMemory = reply.NoMemory

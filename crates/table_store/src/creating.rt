@@ -1,8 +1,7 @@
 ghost use Rattle.std.specs.Prelude.{◌≡◌, None};
 ghost use Rattle.naming.specs.Names.{is_valid};
 ghost use Rattle.table_store.specs.Found.{state_of};
-ghost use Rattle.table_store.specs.Kept.{Tells};
-ghost use Rattle.table_store.specs.Ran.{IsReady, Ran};
+ghost use Rattle.table_store.specs.Ran.{AreReady, RanOn, StillTells};
 ghost use Rattle.table_words.specs.Sound.{IsSound};
 ghost use Rattle.table_words.specs.Tables.{named};
 ghost use Rattle.table_words.specs.declared.call.TableCall.TheVariants as call;
@@ -18,9 +17,9 @@ use table_words::TableReply;
 impl<K: Keeper> LiveTables<K> {
     /// Creates the space's table.
     pub(crate) fn create(&mut self, space: Space) -> TableReply
-        requires ready { IsReady (K.told self.old.keeper) (state_of self.old) }
-        ensures ran { Ran (K.faults self.old.keeper) (K.faults self.new.keeper) (state_of self.old) (state_of self.new) (call.Create space) result }
-        ensures told { Tells (K.told self.new.keeper) (state_of self.new) }
+        requires ready { AreReady K.told self.old }
+        ensures ran { RanOn K.faults self.old self.new (call.Create space) result }
+        ensures told { StillTells K.told self.new }
     {
         match number_of(&space, &self.live) {
             Some(_) => TableReply::Exists,
@@ -29,10 +28,10 @@ impl<K: Keeper> LiveTables<K> {
     }
 
     fn create_new(&mut self, space: Space) -> TableReply
-        requires ready { IsReady (K.told self.old.keeper) (state_of self.old) }
+        requires ready { AreReady K.told self.old }
         requires absent { named space (state_of self.old).live ≡ None }
-        ensures ran { Ran (K.faults self.old.keeper) (K.faults self.new.keeper) (state_of self.old) (state_of self.new) (call.Create space) result }
-        ensures told { Tells (K.told self.new.keeper) (state_of self.new) }
+        ensures ran { RanOn K.faults self.old self.new (call.Create space) result }
+        ensures told { StillTells K.told self.new }
     {
         if self.live.len() >= MOST_TABLES {
             return TableReply::Full;
@@ -70,10 +69,10 @@ impl<K: Keeper> LiveTables<K> {
 
     /// Adds a row to the space's table, which is created where there is none.
     pub(crate) fn insert_named(&mut self, space: Space, row: Row) -> TableReply
-        requires ready { IsReady (K.told self.old.keeper) (state_of self.old) }
+        requires ready { AreReady K.told self.old }
         requires sound { IsSound row }
-        ensures ran { Ran (K.faults self.old.keeper) (K.faults self.new.keeper) (state_of self.old) (state_of self.new) (call.InsertNamed space row) result }
-        ensures told { Tells (K.told self.new.keeper) (state_of self.new) }
+        ensures ran { RanOn K.faults self.old self.new (call.InsertNamed space row) result }
+        ensures told { StillTells K.told self.new }
     {
         match number_of(&space, &self.live) {
             Some(number) => self.insert(number, row),
@@ -82,11 +81,11 @@ impl<K: Keeper> LiveTables<K> {
     }
 
     fn create_with(&mut self, space: Space, row: Row) -> TableReply
-        requires ready { IsReady (K.told self.old.keeper) (state_of self.old) }
+        requires ready { AreReady K.told self.old }
         requires sound { IsSound row }
         requires absent { named space (state_of self.old).live ≡ None }
-        ensures ran { Ran (K.faults self.old.keeper) (K.faults self.new.keeper) (state_of self.old) (state_of self.new) (call.InsertNamed space row) result }
-        ensures told { Tells (K.told self.new.keeper) (state_of self.new) }
+        ensures ran { RanOn K.faults self.old self.new (call.InsertNamed space row) result }
+        ensures told { StillTells K.told self.new }
     {
         if self.live.as_slice().len() >= MOST_TABLES {
             return TableReply::Full;

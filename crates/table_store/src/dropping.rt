@@ -1,10 +1,9 @@
 ghost use Rattle.std.specs.Prelude.{◌≡◌, ◌<◌, IfOk, length, not};
 ghost use Rattle.std.specs.List.{filter, remove};
 ghost use Rattle.std.specs.Str.{bytes_eq};
-ghost use Rattle.table_store.specs.Found.{all_shown, state_of};
+ghost use Rattle.table_store.specs.Found.{all_shown};
 ghost use Rattle.table_store.specs.Drops.{drops_of};
-ghost use Rattle.table_store.specs.Kept.{Tells};
-ghost use Rattle.table_store.specs.Ran.{IsReady, Ran};
+ghost use Rattle.table_store.specs.Ran.{AreReady, RanOn, StillTells};
 ghost use Rattle.table_words.specs.declared.call.TableCall.TheVariants as call;
 
 use crate::finding::{number_of, place_of};
@@ -54,9 +53,9 @@ fn leave_out(live: &mut Vec<Live>, place: usize)
 impl<K: Keeper> LiveTables<K> {
     /// Drops the space's table.
     pub(crate) fn drop_space(&mut self, space: &Space) -> TableReply
-        requires ready { IsReady (K.told self.old.keeper) (state_of self.old) }
-        ensures ran { Ran (K.faults self.old.keeper) (K.faults self.new.keeper) (state_of self.old) (state_of self.new) (call.Drop space.now) result }
-        ensures told { Tells (K.told self.new.keeper) (state_of self.new) }
+        requires ready { AreReady K.told self.old }
+        ensures ran { RanOn K.faults self.old self.new (call.Drop space.now) result }
+        ensures told { StillTells K.told self.new }
     {
         let Some(number) = number_of(space, &self.live) else {
             return TableReply::Absent;
@@ -75,9 +74,9 @@ impl<K: Keeper> LiveTables<K> {
 
     /// Drops all tables of a database. Where it has none, the keeper is not asked.
     pub(crate) fn drop_database(&mut self, db: &Text) -> TableReply
-        requires ready { IsReady (K.told self.old.keeper) (state_of self.old) }
-        ensures ran { Ran (K.faults self.old.keeper) (K.faults self.new.keeper) (state_of self.old) (state_of self.new) (call.DropDatabase db.now) result }
-        ensures told { Tells (K.told self.new.keeper) (state_of self.new) }
+        requires ready { AreReady K.told self.old }
+        ensures ran { RanOn K.faults self.old self.new (call.DropDatabase db.now) result }
+        ensures told { StillTells K.told self.new }
     {
         let Ok(changes) = drops_of(self.alloc, db, &self.live) else {
             return TableReply::NoMemory;

@@ -4,9 +4,7 @@ ghost use Rattle.outside.specs.Causes.{HasCause, failure_of};
 ghost use Rattle.outside.specs.Changes.{Goes};
 ghost use Rattle.table_rows.specs.Rows.{above, has_key};
 ghost use Rattle.table_store.specs.Edits.{changes_for, cuts, key_of, others, put_of, puts};
-ghost use Rattle.table_store.specs.Found.{state_of};
-ghost use Rattle.table_store.specs.Kept.{Tells};
-ghost use Rattle.table_store.specs.Ran.{IsReady, Ran};
+ghost use Rattle.table_store.specs.Ran.{AreReady, RanOn, StillTells};
 ghost use Rattle.table_words.specs.Sound.{SoundAdded, SoundEdits};
 ghost use Rattle.table_words.specs.Step.{added_at, edited, has_added};
 ghost use Rattle.table_words.specs.declared.call.TableCall.TheVariants as call;
@@ -191,10 +189,10 @@ impl<K: Keeper> LiveTables<K> {
         edits: List<Edit>,
         added: Option<Row>,
     ) -> TableReply
-        requires ready { IsReady (K.told self.old.keeper) (state_of self.old) }
+        requires ready { AreReady K.told self.old }
         requires sound { SoundEdits edits × SoundAdded added }
-        ensures ran { Ran (K.faults self.old.keeper) (K.faults self.new.keeper) (state_of self.old) (state_of self.new) (call.Commit number stamp edits added) result }
-        ensures told { Tells (K.told self.new.keeper) (state_of self.new) }
+        ensures ran { RanOn K.faults self.old self.new (call.Commit number stamp edits added) result }
+        ensures told { StillTells K.told self.new }
     {
         let Some(place) = place_of(number, &self.live) else {
             return TableReply::Gone;

@@ -3,9 +3,7 @@ ghost use Rattle.outside.specs.Causes.{HasCause, failure_of};
 ghost use Rattle.outside.specs.Changes.{Goes};
 ghost use Rattle.table_rows.specs.Rows.{above, has_key};
 ghost use Rattle.table_store.specs.Edits.{put_of};
-ghost use Rattle.table_store.specs.Found.{state_of};
-ghost use Rattle.table_store.specs.Kept.{Tells};
-ghost use Rattle.table_store.specs.Ran.{IsReady, Ran};
+ghost use Rattle.table_store.specs.Ran.{AreReady, RanOn, StillTells};
 ghost use Rattle.table_words.specs.Sound.{IsSound};
 ghost use Rattle.table_words.specs.declared.call.TableCall.TheVariants as call;
 
@@ -57,10 +55,10 @@ fn add_row<K: Keeper>(
 impl<K: Keeper> LiveTables<K> {
     /// Adds a row to the table of that number.
     pub(crate) fn insert(&mut self, number: u64, row: Row) -> TableReply
-        requires ready { IsReady (K.told self.old.keeper) (state_of self.old) }
+        requires ready { AreReady K.told self.old }
         requires sound { IsSound row }
-        ensures ran { Ran (K.faults self.old.keeper) (K.faults self.new.keeper) (state_of self.old) (state_of self.new) (call.Insert number row) result }
-        ensures told { Tells (K.told self.new.keeper) (state_of self.new) }
+        ensures ran { RanOn K.faults self.old self.new (call.Insert number row) result }
+        ensures told { StillTells K.told self.new }
     {
         let Some(place) = place_of(number, &self.live) else {
             return TableReply::Gone;

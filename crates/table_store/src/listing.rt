@@ -1,6 +1,6 @@
 ghost use Rattle.std.specs.Prelude.{◌≡◌, ◌++◌, ◌∷◌, [], ℕ, IfOk, OnOk};
 ghost use Rattle.table_store.specs.Found.{all_shown, state_of};
-ghost use Rattle.table_store.specs.Ran.{Ran};
+ghost use Rattle.table_store.specs.Ran.{OnlyReads};
 ghost use Rattle.table_words.specs.Tables.{databases, has_text, names_in};
 ghost use Rattle.table_words.specs.declared.call.TableCall.TheVariants as call;
 
@@ -61,7 +61,7 @@ fn databases(alloc: Global, live: &[Live]) -> Result<List<Text>, NoMemory>
 
 impl<K> LiveTables<K> {
     pub(crate) fn list_tables(&self, db: &Text) -> TableReply
-        ensures ran { (faults : ℕ) → Ran faults faults (state_of self.now) (state_of self.now) (call.ListTables db.now) result }
+        ensures ran { OnlyReads (state_of self.now) (call.ListTables db.now) result }
     {
         match names_in(self.alloc, db, &self.live) {
             Ok(names) => TableReply::Names(names),
@@ -70,7 +70,7 @@ impl<K> LiveTables<K> {
     }
 
     pub(crate) fn list_databases(&self) -> TableReply
-        ensures ran { (faults : ℕ) → Ran faults faults (state_of self.now) (state_of self.now) call.ListDatabases result }
+        ensures ran { OnlyReads (state_of self.now) call.ListDatabases result }
     {
         match databases(self.alloc, &self.live) {
             Ok(names) => TableReply::Names(names),

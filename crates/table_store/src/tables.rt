@@ -1,7 +1,6 @@
 ghost use Rattle.std.specs.Prelude.{◌≡◌, length};
-ghost use Rattle.table_store.specs.Found.{state_of};
 ghost use Rattle.table_store.specs.Kept.{Tells};
-ghost use Rattle.table_store.specs.Ran.{IsReady, Ran};
+ghost use Rattle.table_store.specs.Ran.{AreReady, RanOn, StillTells};
 ghost use Rattle.table_words.specs.Sound.{Sound, accepted};
 
 use crate::live::LiveTables;
@@ -71,10 +70,10 @@ impl<K> LiveTables<K> {
 impl<K: Keeper> LiveTables<K> {
     /// Makes a call.
     fn run(&mut self, asked: TableCall) -> TableReply
-        requires ready { IsReady (K.told self.old.keeper) (state_of self.old) }
+        requires ready { AreReady K.told self.old }
         requires may { accepted asked }
-        ensures ran { Ran (K.faults self.old.keeper) (K.faults self.new.keeper) (state_of self.old) (state_of self.new) asked result }
-        ensures told { Tells (K.told self.new.keeper) (state_of self.new) }
+        ensures ran { RanOn K.faults self.old self.new asked result }
+        ensures told { StillTells K.told self.new }
     {
         match asked {
             TableCall::SelectNamed { space, cond } => self.select_named(&space, &cond),

@@ -20,6 +20,7 @@ pub struct SharedTables<'a, R: Wait, K: Keeper + Drop> {
 }
 
 impl<'a, R: Wait, K: Keeper + Drop> Model for SharedTables<'a, R, K> {
+    ghost use Rattle.std.specs.Prelude.{◌≡◌};
     ghost use Rattle.shared_books.specs.Desks.{SharedDesk, IsHeld};
     ghost use Rattle.table_words.specs.Sound.{Sound};
     ghost use Rattle.jsonb_contain.specs.contracts.value.Json as json;
@@ -59,7 +60,7 @@ impl<'a, R: Wait, K: Keeper + Drop> SharedTables<'a, R, K> {
     /// The seat, once no turn is held.
     pub fn part(self) -> Seat<Tables<K>>
         requires free { self.seat.held ≡ false }
-        ensures { result ≡ self.seat }
+        ensures { result ≡ self.entry.seat }
     {
         let SharedTables { seat, .. } = self;
         seat

@@ -1,3 +1,5 @@
 mod alone;
+mod asks;
+mod batches;
 mod counter;
 mod threads;

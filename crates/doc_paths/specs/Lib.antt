@@ -1,2 +1,4 @@
 pub mod Paths
 pub mod Reach
+pub mod Changes
+pub mod Answers

@@ -16,7 +16,8 @@ fn all_digits(bytes: &[u8]) -> bool
     true
 }
 
-fn tells_a_place(part: &str) -> bool
+/// Whether a part is "0", or digits without a leading zero.
+pub(crate) fn tells_a_place(part: &str) -> bool
     ensures { result ≡ is_index part.now }
 {
     let bytes = part.as_bytes();

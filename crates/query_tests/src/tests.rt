@@ -3,4 +3,6 @@ mod matches;
 mod pushed;
 mod readings;
 mod refusals;
+mod update_refusals;
+mod updates;
 mod words;

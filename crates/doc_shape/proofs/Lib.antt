@@ -1,0 +1,9 @@
+pub mod Arrays
+pub mod Cutting
+pub mod Firsts
+pub mod Layers
+pub mod Neighbours
+pub mod Orders
+pub mod Placed
+pub mod Stable
+pub mod Tails

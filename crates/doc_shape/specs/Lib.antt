@@ -1,0 +1,9 @@
+pub mod Keys
+pub mod Sorted
+pub mod Reading
+pub mod Answers
+pub mod Bests
+pub mod Rows
+pub mod Clashes
+pub mod Shown
+pub mod Cuts

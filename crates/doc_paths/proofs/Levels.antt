@@ -38,8 +38,11 @@ pub puts_on : {A B : Type 0} (result : Result (Unit {0}) PutRefused) (place : A 
     (above : Result B PutRefused) (x new : A) (old : B)
     → above ≡ (below >>= λ it. Ok (place it)) → place x ≡ old → Puts result below x new → Puts result above old (place new)
 puts_on (Ok done) place below above x new old is same did = is ∙ ap (λ r. r >>= λ it. Ok (place it)) did
-puts_on (Err why) place below above x new old is same did = (subst (Refuses why) (sym is) (refused_on why below _ did.0), ap place did.1
-    ∙ same)
+puts_on (Err why) place below above x new old is same did = (
+  subst (Refuses why) (sym is) (refused_on why below _ did.0),
+  ap place did.1
+      ∙ same,
+)
 
 -- ---- fields
 
@@ -57,7 +60,7 @@ pub with_field_there : (name : List ℕ) (pairs : List (Pair Value)) (place : �
 with_field_there name [] place it at = absurd (cc)
 with_field_there name (pair ∷ pairs) place it at =
     here (bytes_eq pair.name name) pair pairs place it (first_place name (names pairs)) (with_field name it pairs) at
-        (λ n is. with_field_there name pairs n it is)
+    (λ n is. with_field_there name pairs n it is)
 
 gone : (is : Bool) (pair : Pair Value) (pairs more last : List (Pair Value)) (it : Value) (found : Option ℕ)
     → None ≡ (if is then Some 0 else option_map (λ n. n + 1) found) → (None ≡ found → more ≡ pairs ++ last)
@@ -71,7 +74,7 @@ pub with_field_last : (name : List ℕ) (pairs : List (Pair Value)) (it : Value)
 with_field_last name [] it at = refl
 with_field_last name (pair ∷ pairs) it at =
     gone (bytes_eq pair.name name) pair pairs (with_field name it pairs)
-        (record { name = name; value = it } ∷ []) it (first_place name (names pairs)) at (λ is. with_field_last name pairs it is)
+    (record { name = name; value = it } ∷ []) it (first_place name (names pairs)) at (λ is. with_field_last name pairs it is)
 
 -- after each step the same
 next_is : {A B E : Type 0} (found : Result A E) (f g : A → B) → ((a : A) → f a ≡ g a)
@@ -158,7 +161,7 @@ pub left_fields_there : (name : List ℕ) (go : Value → Option Value) (pairs :
 left_fields_there name go [] place x at is = absurd (cc)
 left_fields_there name go (pair ∷ pairs) place x at is =
     kept_here (bytes_eq pair.name name) pair pairs place go x (first_place name (names pairs)) (left_fields name go pairs) at is
-        (λ n a b. left_fields_there name go pairs n x a b)
+    (λ n a b. left_fields_there name go pairs n x a b)
 
 pub left_place_some : (pairs : List (Pair Value)) (place : ℕ) (it : Value) → left_place pairs place (Some it) ≡ with_value pairs place it
 left_place_some [] place it = refl
@@ -188,7 +191,7 @@ pub left_fields_absent : (name : List ℕ) (go : Value → Option Value) (pairs 
 left_fields_absent name go [] at = refl
 left_fields_absent name go (pair ∷ pairs) at =
     absent_here (bytes_eq pair.name name) pair pairs (left_fields name go pairs) (left_field pair.name (go pair.value) pairs)
-        (first_place name (names pairs)) at (λ is. left_fields_absent name go pairs is)
+    (first_place name (names pairs)) at (λ is. left_fields_absent name go pairs is)
 
 -- a take below is one above
 pub takes_on : {A B : Type 0} (result : Result (Option Value) NoRoom) (place : A → B) (below : A) (found : Option Value) (above : B)
@@ -199,8 +202,11 @@ takes_on (Err why) place below found above all x new old is same back did = ap p
 
 pub field_absent : (part : List ℕ) (rest : List (List ℕ)) (pairs : List (Pair Value)) → None ≡ first_place part (names pairs)
     → (pairs ≡ left_fields part (left rest) pairs) × (None ≡ behind (peeked rest) (first_of part pairs))
-field_absent part rest pairs at = (sym (left_fields_absent part (left rest) pairs at), ap (behind (peeked rest))
-    (sym (first_not_there part pairs at)))
+field_absent part rest pairs at = (
+  sym (left_fields_absent part (left rest) pairs at),
+  ap (behind (peeked rest))
+      (sym (first_not_there part pairs at)),
+)
 
 pub field_takes : (result : Result (Option Value) NoRoom) (part next : List ℕ) (rest others : List (List ℕ)) (pairs : List (Pair Value))
     (place : ℕ) (x new : Value)
@@ -211,7 +217,7 @@ pub field_takes : (result : Result (Option Value) NoRoom) (part next : List ℕ)
 field_takes result part next rest others pairs place x new more at is did =
     takes_on result (with_value pairs place) _ _ _ _ x new pairs
     (left_fields_there part (left rest) pairs place x at is ∙ ap (λ (r : List (List ℕ)). left_place pairs place (left r x)) more
-        ∙ left_place_some pairs place _)
+    ∙ left_place_some pairs place _)
     (ap (behind (peeked rest)) (first_there part pairs place at ∙ is) ∙ ap (λ (r : List (List ℕ)). peeked r x) more)
     (with_value_same pairs place x is) did
 
@@ -242,7 +248,7 @@ removed_by None result part rest pairs new place none at is did = absurd (found_
 removed_by (Some x) result part rest pairs new place none at is did =
     subst (λ kept. Takes result kept (behind (peeked rest) (first_of part pairs)) pairs new)
     (sym (left_fields_there part (left rest) pairs place x at is ∙ ap (λ (r : List (List ℕ)). left_place pairs place (left r x)) none
-        ∙ left_place_none pairs place))
+    ∙ left_place_none pairs place))
     (subst (λ found. Takes result (take place pairs ++ drop (place + 1) pairs) found pairs new)
     (sym (ap (behind (peeked rest)) (first_there part pairs place at ∙ is) ∙ ap (λ (r : List (List ℕ)). peeked r x) none))
     did)
@@ -284,8 +290,11 @@ something true told place items at = by_bound (nat_lt told (length items)) at
 
 pub item_absent : (part : List ℕ) (rest : List (List ℕ)) (items : List Value) → None ≡ place_there part items
     → (items ≡ left_items (left rest) (place_there part items) items) × (None ≡ behind (peeked rest) (item_at part items))
-item_absent part rest items at = (ap
-    (λ o. left_items (left rest) o items) at, ap (behind (peeked rest)) (sym (nothing (is_index part) (digits_value 10 part) items at)))
+item_absent part rest items at = (
+  ap
+      (λ o. left_items (left rest) o items) at,
+  ap (behind (peeked rest)) (sym (nothing (is_index part) (digits_value 10 part) items at)),
+)
 
 pub item_takes : (result : Result (Option Value) NoRoom) (part next : List ℕ) (rest others : List (List ℕ)) (items : List Value)
     (place : ℕ) (x new : Value)
@@ -296,9 +305,9 @@ pub item_takes : (result : Result (Option Value) NoRoom) (part next : List ℕ) 
 item_takes result part next rest others items place x new more at is did =
     takes_on result (slice_set items place) _ _ _ _ x new items
     (ap (λ o. left_items (left rest) o items) (sym at) ∙ ap (λ o. left_at (left rest) o place items) is
-        ∙ ap (λ (r : List (List ℕ)). slice_set items place (unwrap_or (left r x) value.Null)) more)
+    ∙ ap (λ (r : List (List ℕ)). slice_set items place (unwrap_or (left r x) value.Null)) more)
     (ap (behind (peeked rest)) (something (is_index part) (digits_value 10 part) place items at ∙ is)
-        ∙ ap (λ (r : List (List ℕ)). peeked r x) more)
+    ∙ ap (λ (r : List (List ℕ)). peeked r x) more)
     (slice_set_same items place x is) did
 
 -- ---- where nothing stands, a take leaves all
@@ -353,4 +362,4 @@ pub nothing_taken : (path : List (List ℕ)) (pairs : List (Pair Value)) → pee
 nothing_taken [] pairs none = refl
 nothing_taken (part ∷ rest) pairs none =
     fields_stay (peeked rest) (left rest)
-        (nothing_left rest) part pairs (ap (peeked_in part (peeked rest)) (sym (value.outs-Doc pairs)) ∙ none)
+    (nothing_left rest) part pairs (ap (peeked_in part (peeked rest)) (sym (value.outs-Doc pairs)) ∙ none)

@@ -11,7 +11,7 @@ pub without_first : (part : List ℕ) (pairs : List (Pair Value)) (place : ℕ) 
     → take place pairs ++ drop (place + 1) pairs ≡ taken (part ∷ []) pairs
 without_first part pairs place at =
     (field_removed (Ok (option_map
-        (λ (pair : Pair Value). pair.value) (slice_get pairs place))) part [] pairs _ place refl at (refl, refl)).0
+    (λ (pair : Pair Value). pair.value) (slice_get pairs place))) part [] pairs _ place refl at (refl, refl)).0
 
 pub without_none : (part : List ℕ) (pairs : List (Pair Value)) → None ≡ first_place part (names pairs) → pairs ≡ taken (part ∷ []) pairs
 without_none part pairs at = sym (left_fields_absent part (left []) pairs at)

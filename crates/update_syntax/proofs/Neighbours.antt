@@ -49,7 +49,7 @@ between (x ∷ a) (y ∷ b) (z ∷ c) pre low high =
     ap (λ p. slice_cmp nat_cmp p y) (sym same) ∙ nat_list_cmp_total.antisymm x y in
     let told =
     heads (slice_cmp nat_cmp y x) (parts_cmp b a)
-        (parts_cmp c b) low (subst (λ o. is_lt (ordering_then o (parts_cmp c b)) ≡ false) turned high) in
+    (parts_cmp c b) low (subst (λ o. is_lt (ordering_then o (parts_cmp c b)) ≡ false) turned high) in
     let equal : bytes_eq x y ≡ true =
     sym (is_eq-slice_cmp x y) ∙ ap is_eq (nat_list_cmp_total.antisymm x y) ∙ ap (λ o. is_eq (ordering_reverse o)) told.0 in
     and_true (bytes_eq x y) (is_prefix a b) equal (between a b c parted.1 told.1 told.2)
@@ -65,7 +65,7 @@ turned_round (z ∷ c) (x ∷ a) pre high =
     let equal : bytes_eq x z ≡ true = subst (λ p. bytes_eq p x ≡ true → bytes_eq x p ≡ true) (sym same) (λ e. e) parted.0 in
     let one : slice_cmp nat_cmp z x ≡ Equal = tied (slice_cmp nat_cmp z x) (is_eq-slice_cmp z x ∙ parted.0) in
     and_true (bytes_eq x z)
-        (is_prefix a c) equal (turned_round c a parted.1 (subst (λ o. is_lt (ordering_then o (parts_cmp c a)) ≡ false) one high))
+    (is_prefix a c) equal (turned_round c a parted.1 (subst (λ o. is_lt (ordering_then o (parts_cmp c a)) ≡ false) one high))
   where
     tied : (o : Ordering) → is_eq o ≡ true → o ≡ Equal
     tied Equal e = refl
@@ -92,7 +92,7 @@ rises (x ∷ []) up = (tt, tt)
 rises (x ∷ y ∷ ys) up =
     let rest = rises (y ∷ ys) (λ k d low high. let e : suc k + 1 ≡ suc (k + 1) = omega arith in
     subst (λ n. below (slice_index_or (x ∷ y ∷ ys) n d) (slice_index_or (y ∷ ys) k d) ≡ false) e (up (suc k) d (omega arith)
-        (omega (arith, high)))) in
+    (omega (arith, high)))) in
     let first : below y x ≡ false = up 0 x (omega arith) (omega arith) in
     ((first, lower x y ys first rest.0), rest)
 
@@ -171,7 +171,7 @@ total_cons x xs =
     (sum_by-cons (λ z. one_if (clash x z)) x xs ∙ ap (λ b. one_if b + count_by (clash x) xs) (own_clash x))
     ∙ ap (λ n. 1 + count_by (clash x) xs + n)
     (ap (λ (f : Parts → ℕ). sum_by f xs)
-        (λ i y. (sum_by-cons (λ z. one_if (clash y z)) x xs ∙ ap (λ b. one_if b + count_by (clash y) xs) (clash_comm y x)) i)
+    (λ i y. (sum_by-cons (λ z. one_if (clash y z)) x xs ∙ ap (λ b. one_if b + count_by (clash y) xs) (clash_comm y x)) i)
     ∙ sum_plus (λ y. one_if (clash x y)) (λ y. count_by (clash y) xs) xs)
 
 total_is : (xs : List Parts) → total xs xs ≡ length xs + 2 * pairs xs

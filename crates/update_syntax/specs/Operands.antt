@@ -63,7 +63,7 @@ abbrev pub each_in : List (Pair Value) → Result (List Value) ℕ
 each_in [] = Err 4
 each_in (pair ∷ more) =
     if bytes_eq pair.name (codes "$each") then
-        (found_or 4 (items_in (out-Value pair.value)) >>= λ items. none_behind more >>= λ done. Ok items)
+    (found_or 4 (items_in (out-Value pair.value)) >>= λ items. none_behind more >>= λ done. Ok items)
     else Err 29
 
 -- what is added: the items of modifiers, where it is a document whose first name begins with `$`; else the value itself

@@ -8,7 +8,7 @@ pub put_into_doc-returns-in-Ok : goal.put_into_doc-returns-in-Ok
 put_into_doc-returns-in-Ok t c =
     puts_on c.put_there.result (with_value c.args.doc.now c.in-Some.place) _ _ _ _ _
     (field_there c.args.part.now (put_below c.args.rest.now c.args.new) c.args.doc.now c.in-Some.place c.in-Ok.it.now
-        c.in-Some.ensures.value c.in-Ok.ensures.value)
+    c.in-Some.ensures.value c.in-Ok.ensures.value)
     (with_value_same c.args.doc.now c.in-Some.place c.in-Ok.it.now c.in-Ok.ensures.value)
     c.put_there.ensures
 
@@ -20,7 +20,7 @@ pub put_into_array-returns-in-Some : goal.put_into_array-returns-in-Some
 put_into_array-returns-in-Some t c =
     puts_on c.put_there.result (slice_set c.args.items.now c.in_ok-place.place) _ _ _ _ _
     (item_there c.args.part.now (put_below c.args.rest.now c.args.new) c.args.items.now c.in_ok-place.place c.in-Some.it.now
-        c.in_ok-place.ensures c.in-Some.ensures.value)
+    c.in_ok-place.ensures c.in-Some.ensures.value)
     (slice_set_same c.args.items.now c.in_ok-place.place c.in-Some.it.now c.in-Some.ensures.value)
     c.put_there.ensures
 
@@ -28,5 +28,5 @@ pub put_into_array-returns-in-Ok-put_behind : goal.put_into_array-returns-in-Ok-
 put_into_array-returns-in-Ok-put_behind t c =
     let past : length c.args.items.now ≤ c.in_ok-place.place = search rules in
     item_last c.args.part.now (put_below c.args.rest.now c.args.new) c.args.items.now c.in_ok-place.place c.in-Ok.it
-        c.in_ok-place.ensures past c.in-Ok.ensures
+    c.in_ok-place.ensures past c.in-Ok.ensures
     ∙ ap Ok (sym c.in-Ok-put_behind.ensures.ok)

@@ -8,13 +8,13 @@ take_field-returns-in-None t c = field_absent c.args.part.now c.args.rest.now c.
 pub take_field-returns-in-None-split_first : goal.take_field-returns-in-None-split_first
 take_field-returns-in-None-split_first t c =
     field_removed c.remove_field.result c.args.part.now c.args.rest.now c.args.doc.now _ c.in-Some.place
-        c.in-None-split_first.ensures.cases c.in-Some.ensures.value c.remove_field.ensures
+    c.in-None-split_first.ensures.cases c.in-Some.ensures.value c.remove_field.ensures
 
 pub take_field-returns-in-Ok : goal.take_field-returns-in-Ok
 take_field-returns-in-Ok t c =
     let more : c.args.rest.now ≡ c.as_str.result.now ∷ c.in-Some-split_first.others.now = search rules in
     field_takes c.take_in.result c.args.part.now c.as_str.result.now c.args.rest.now c.in-Some-split_first.others.now c.args.doc.now
-        c.in-Some.place c.in-Ok.it.now _
+    c.in-Some.place c.in-Ok.it.now _
     more c.in-Some.ensures.value c.in-Ok.ensures.value c.take_in.ensures
 
 pub take_item-returns-in-None : goal.take_item-returns-in-None
@@ -24,5 +24,5 @@ pub take_item-returns-in-Some-split_first : goal.take_item-returns-in-Some-split
 take_item-returns-in-Some-split_first t c =
     let more : c.args.rest.now ≡ c.as_str.result.now ∷ c.in-Some-split_first.others.now = search rules in
     item_takes c.take_in.result c.args.part.now c.as_str.result.now c.args.rest.now c.in-Some-split_first.others.now c.args.items.now
-        c.in-Some.place c.in-Some-get_mut.it.now _
+    c.in-Some.place c.in-Some-get_mut.it.now _
     more c.in-Some.ensures c.in-Some-get_mut.ensures.value c.take_in.ensures

@@ -72,7 +72,7 @@ static ROWS: [(&str, &str, &str); 15] = [
     (
         "{a.0.0: 1}",
         "[{_id: 1, a: {0: {0: 2}}}, {_id: 2, a: [[1]]}, {_id: 3, a: [{0: 3}]}]",
-        "[2, 1, 3]",
+        "[3, 2, 1]",
     ),
     // A key that is reached in 6435 ways, as each array is passed by its place or by its documents, is found once.
     (

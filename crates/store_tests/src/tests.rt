@@ -1,1 +1,11 @@
+mod asks;
+mod calls;
+mod commits;
+mod desks;
+mod faults;
+mod kept;
+mod limits;
+mod loads;
+mod scripts;
 mod tables;
+mod texts;

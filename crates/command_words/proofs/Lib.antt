@@ -1,4 +1,5 @@
+pub mod Few
 pub mod Lookups
 pub mod Moved
-pub mod Named
+pub mod Reading
 pub mod Twice

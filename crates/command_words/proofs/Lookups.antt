@@ -12,7 +12,8 @@ use Rattle.command_words.specs.declared.tables.Row.{Row}
 use Rattle.command_words.specs.declared.word.Word.{Word}
 use Rattle.command_words.specs.Tables.{Field, commands}
 use Rattle.command_words.specs.Told.{told}
-use Rattle.command_words.specs.Refusal.{takes_among, word_in}
+use Rattle.command_words.specs.Body.{word_in}
+use Rattle.command_words.specs.Refusal.{takes_among}
 
 -- what is found among things as they are shown is what is shown of the one found
 found_shown : {X Y Z : Type 0} (shown : X → Y) (test : Y → Bool) (part : Y → Z) (rows : List X)

@@ -14,14 +14,13 @@ use Rattle.op_msg.specs.declared.message.Message.{Message}
 use Rattle.op_msg.specs.declared.message.Sequence.{Sequence}
 use Rattle.command_words.specs.Body.{documents_in, sequence_of}
 
--- the first document of a sequence, where there is one
-abbrev pub first_of_sequence : Option Sequence → List (Pair Value)
-first_of_sequence found = unwrap_or (slice_get (unwrap_or (option_map (λ (it : Sequence). it.docs) found) []) 0) []
+-- the documents of a sequence, where there is one
+abbrev pub docs_of : Option Sequence → List (List (Pair Value))
+docs_of found = unwrap_or (option_map (λ (it : Sequence). it.docs) found) []
 
--- the first document of that name in a message, where that value is the field's
-abbrev pub first_of_field : Message → List ℕ → Option Value → List (Pair Value)
-first_of_field m name found =
-    unwrap_or (slice_get (unwrap_or (option_or (option_map (λ it. documents_in (out-Value it)) found) (sequence_of m.sequences name)) []) 0) []
+-- the documents of that name in a message, where that value is the field's
+abbrev pub docs_by : Message → List ℕ → Option Value → List (List (Pair Value))
+docs_by m name found = unwrap_or (option_or (option_map (λ it. documents_in (out-Value it)) found) (sequence_of m.sequences name)) []
 
 abbrev at_place : {A : Type 0} → List A → Option ℕ → Option A
 at_place items None = None

@@ -1,5 +1,5 @@
-pub mod Body
 pub mod Tables
-pub mod Refusal
+pub mod Body
 pub mod Meaning
+pub mod Refusal
 pub mod Told

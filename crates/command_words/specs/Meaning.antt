@@ -1,43 +1,62 @@
--- What a message asks for that is not refused.
-use Rattle.std.specs.Prelude.{◌≡◌, true, [], option_map, slice_get, codes}
+-- What a message asks for whose form is in order, or the kind by which the first of its operands is refused.
+use Rattle.std.specs.Prelude.{ℕ, ◌≤◌, ⊤, Bool, true, List, [], length, map, Option, option_map, codes, Result, Ok}
+use Rattle.std.specs.List.{All}
 use Rattle.std.specs.Option.{unwrap_or}
+use Rattle.std.specs.Result.{result_unwrap_or}
+use Rattle.std_words.specs.Steps.{◌>>=◌, fault_of}
+use Rattle.bson_values.specs.declared.pairs.Pair.{Pair}
 use Rattle.bson_values.specs.declared.space.Space.{Space}
-use Rattle.doc_model.specs.declared.op.Op.{Op}
+use Rattle.bson_values.specs.declared.value.Value.{Value}
+use Rattle.filter_syntax.specs.declared.filter.Filter.{Filter}
+use Rattle.filter_syntax.specs.Reading.{read}
 use Rattle.doc_model.specs.declared.op.Op.TheVariants as op
+use Rattle.doc_model.specs.Named.{IsNamed, IsRead}
 use Rattle.op_msg.specs.declared.message.Message.{Message}
 use Rattle.command_words.specs.declared.command.Command.{Command}
 use Rattle.command_words.specs.declared.command.Command.TheVariants as command
 use Rattle.command_words.specs.declared.word.Word.{Word}
 use Rattle.command_words.specs.declared.word.Word.TheVariants.{Ping, Insert, Find}
-use Rattle.command_words.specs.Body.{documents_of}
-use Rattle.naming.specs.Names.{is_database_name, is_collection_name}
-use Rattle.command_words.specs.Refusal.{word_in, db_of, coll_of}
+use Rattle.command_words.specs.Body.{pairs_of, truth_of, field_or, documents_of, word_in, db_of, coll_of}
 
 -- the collection that stands beside the command's name, in the message's database
 unfoldable pub space_of : Message → Space
 space_of m = record { db = db_of m; coll = coll_of m }
 
--- by the command; an insert inserts the first of its documents
-abbrev pub meaning : Word → Message → Command
-meaning Ping m = command.Ping
-meaning Insert m = command.Insert (op.Insert (space_of m) (unwrap_or (slice_get (documents_of m (codes "documents")) 0) []))
-meaning Find m = command.Find (op.Find (space_of m))
+-- the truth of the field of that name, or what stands for none
+abbrev pub truth_or : Bool → List (Pair Value) → List ℕ → Bool
+truth_or none fields name = field_or none truth_of fields name
+
+-- the filter that the field of that name reads as; an empty one stands for none
+abbrev pub filter_in : List (Pair Value) → List ℕ → Result Filter ℕ
+filter_in fields name = read (field_or [] pairs_of fields name)
+
+-- by the command; operands are read in the order of its fields
+abbrev pub meaning : Word → Message → Result Command ℕ
+meaning Ping m = Ok command.Ping
+meaning Insert m =
+    Ok (command.Insert (map (op.Insert (space_of m)) (documents_of m (codes "documents"))) (truth_or true m.body (codes "ordered")))
+meaning Find m = filter_in m.body (codes "filter") >>= λ filter. Ok (command.Find (op.Find (space_of m) filter))
+
+-- by the command that the message names
+abbrev pub meaning_of : Message → Result Command ℕ
+meaning_of m = unwrap_or (option_map (λ word. meaning word m) (word_in m.body)) (Ok command.Ping)
 
 -- what a message means that is not refused
 abbrev pub command_of : Message → Command
-command_of m = unwrap_or (option_map (λ word. meaning word m) (word_in m.body)) command.Ping
+command_of m = result_unwrap_or (meaning_of m) command.Ping
 
--- the names of its space are such as a database and a collection may have
-abbrev pub IsNamed : Space → Type 0
-IsNamed space = (is_database_name space.db ≡ true) × (is_collection_name space.db space.coll ≡ true)
+-- why one of its operands is refused, the first that is
+abbrev pub operand_refusal : Message → Option ℕ
+operand_refusal m = fault_of (meaning_of m)
 
--- the space of an operation is named so
-abbrev pub OpIsNamed : Op → Type 0
-OpIsNamed (op.Insert space doc) = IsNamed space
-OpIsNamed (op.Find space) = IsNamed space
-
--- the spaces of a command's operations are named so
+-- the spaces of a command's operations have names that a database and a collection may have, and a find reads alone
 abbrev pub AreNamed : Command → Type 0
-AreNamed command.Ping = Unit {0}
-AreNamed (command.Insert op) = OpIsNamed op
-AreNamed (command.Find op) = OpIsNamed op
+AreNamed command.Ping = ⊤
+AreNamed (command.Insert ops ordered) = All IsNamed ops
+AreNamed (command.Find one) = IsNamed one × IsRead one
+
+-- an insert has 1 to 1,000 operations
+abbrev pub AreFew : Command → Type 0
+AreFew command.Ping = ⊤
+AreFew (command.Insert ops ordered) = (1 ≤ length ops) × (length ops ≤ 1000)
+AreFew (command.Find one) = ⊤

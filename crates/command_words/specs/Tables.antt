@@ -4,7 +4,7 @@ use Rattle.std.specs.Prelude.{ℕ, Bool, true, false, List, [], ◌∷◌, codes
 use Rattle.command_words.specs.declared.word.Word.{Word}
 use Rattle.command_words.specs.declared.word.Word.TheVariants.{Ping, Insert, Find}
 use Rattle.command_words.specs.declared.takes.Takes.{Takes}
-use Rattle.command_words.specs.declared.takes.Takes.TheVariants.{Anything, Text, Document, Documents}
+use Rattle.command_words.specs.declared.takes.Takes.TheVariants.{Anything, Text, Document, Truth, Documents}
 
 -- a field, what it takes, and whether it has to be there
 pub record Field : Type 0 where
@@ -33,5 +33,5 @@ commands = (codes "ping", Ping) ∷ (codes "insert", Insert) ∷ (codes "find", 
 
 unfoldable pub shape_of : Word → Shape
 shape_of Ping = record { own = Anything; fields = []; free = true }
-shape_of Insert = on_coll (must Documents "documents" ∷ [])
+shape_of Insert = on_coll (must Documents "documents" ∷ may Truth "ordered" ∷ [])
 shape_of Find = on_coll (may Document "filter" ∷ [])

@@ -1,14 +1,15 @@
 -- The tables of the code, as the definitions have them, and what the functions of the code tell one another.
-use Rattle.std.specs.Prelude.{◌≡◌, true, ◌&&◌, ◌||◌, map, None, Some, Result, Ok, Err}
+use Rattle.std.specs.Prelude.{ℕ, ◌≡◌, ⊤, true, ◌&&◌, ◌||◌, map, None, Some, Result, Ok, Err}
+use Rattle.naming.specs.Names.{is_database_name, is_collection_name}
 use Rattle.op_msg.specs.declared.message.Message.{Message}
 use Rattle.command_words.specs.declared.refused.CommandRefused.{CommandRefused}
 use Rattle.command_words.specs.declared.refused.CommandRefused.TheVariants.{Refused, NoMemory}
-use Rattle.command_words.specs.declared.word.Word.{Word}
 use Rattle.command_words.specs.declared.tables.Row.{Row}
 use Rattle.command_words.specs.declared.tables.Table.{Table}
-use Rattle.naming.specs.Names.{is_database_name, is_collection_name}
-use Rattle.command_words.specs.Refusal.{MayWant, refusal, word_in, db_of, coll_of}
+use Rattle.command_words.specs.declared.word.Word.{Word}
 use Rattle.command_words.specs.Tables.{Field, Shape, shape_of}
+use Rattle.command_words.specs.Body.{word_in, db_of, coll_of}
+use Rattle.command_words.specs.Refusal.{MayWant, form_refusal}
 
 -- a row, and a table
 abbrev pub told : Row → Field
@@ -17,9 +18,19 @@ told row = record { name = row.name.now; takes = row.takes; required = row.requi
 abbrev pub shape_told : Table → Shape
 shape_told table = record { own = table.own; fields = map told table.fields.now; free = table.free }
 
--- the message is not refused, this is its command, and the names of its space are such as may be; or why not
+-- the message's form is in order, this is its command, and the names of its space are such as may be; or why not
 abbrev pub Asks : Message → Result Word CommandRefused → Type 0
-Asks m (Ok word) = (refusal m ≡ None) × (word_in m.body ≡ Some word)
+Asks m (Ok word) = (form_refusal m ≡ None) × (word_in m.body ≡ Some word)
     × (is_database_name (db_of m) && ((shape_of word).free || is_collection_name (db_of m) (coll_of m)) ≡ true)
-Asks m (Err (Refused kind)) = refusal m ≡ Some kind
+Asks m (Err (Refused kind)) = form_refusal m ≡ Some kind
 Asks m (Err NoMemory) = MayWant m
+
+-- it is refused so; want of memory tells nothing of it
+abbrev pub Fails : {Y : Type 0} → CommandRefused → Result Y ℕ → Type 0
+Fails (Refused kind) found = found ≡ Err kind
+Fails NoMemory found = ⊤
+
+-- it is read, or refused, so
+abbrev pub Gives : {Y : Type 0} → Result Y CommandRefused → Result Y ℕ → Type 0
+Gives (Ok it) found = found ≡ Ok it
+Gives (Err why) found = Fails why found

@@ -1,12 +1,11 @@
 ghost use Rattle.std.specs.Prelude.{◌≡◌, [], drop};
 ghost use Rattle.std.specs.Option.{option_copied};
-ghost use Rattle.command_words.specs.Body.{own_in, made_or, text_of};
-ghost use Rattle.command_words.specs.Refusal.{word_in, db_of, coll_of};
+ghost use Rattle.command_words.specs.Body.{own_in, made_or, text_of, sequence_of, word_in, db_of, coll_of};
 
 use crate::tables::word_of;
 use crate::values::text_of;
 use crate::word::Word;
-use bson_values::{Pair, Value};
+use bson_values::{Document, List, Pair, Value};
 use op_msg::Message;
 
 /// The command that the first field names.
@@ -61,4 +60,16 @@ pub(crate) fn coll_of(message: &Message) -> &str
     ensures { result.now ≡ coll_of message.now }
 {
     text_or_none(own_in(message.body.as_slice()))
+}
+
+/// The documents of the sequence of that name.
+pub(crate) fn sequence_of<'a>(message: &'a Message, name: &str) -> Option<&'a List<Document>>
+    ensures { option_copied result ≡ sequence_of message.now.sequences name.now }
+{
+    message
+        .sequences
+        .as_slice()
+        .iter()
+        .find(|sequence| sequence.name.as_str() == name)
+        .map(|sequence| &sequence.docs)
 }

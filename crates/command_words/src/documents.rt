@@ -1,88 +1,79 @@
-ghost use Rattle.std.specs.Prelude.{◌≡◌, ◌∷◌, [], map};
-ghost use Rattle.std.specs.Option.{option_copied, unwrap_or};
+ghost use Rattle.std.specs.Prelude.{◌≡◌, ◌<◌, [], map, length, IfSome, IfOk};
+ghost use Rattle.std.specs.List.{position};
+ghost use Rattle.std.specs.Option.{unwrap_or};
+ghost use Rattle.std.specs.Str.{bytes_eq};
 ghost use Rattle.bson_values.specs.declared.value.Value.TheViews.{out-Value};
 ghost use Rattle.command_words.specs.Body.{pairs_of, documents_in, sequence_of, documents_of};
-ghost use Rattle.command_words.specs.Body.{may_be_inserted};
 
-use bson_values::{Document, List, Value, storable};
-use naming::can_be_id;
-use op_msg::Message;
+use bson_values::{Document, List, NoMemory, Value};
+use op_msg::{Message, Sequence};
+use std::alloc::Global;
+
+/// The document that the value is, moved out of it.
+fn document_in(alloc: Global, value: Value) -> Document
+    ensures { result ≡ pairs_of (out-Value value) }
+{
+    match value {
+        Value::Doc(document) => document,
+        _ => Document::new(alloc),
+    }
+}
+
+fn documents_among(alloc: Global, items: List<Value>) -> Result<List<Document>, NoMemory>
+    ensures { IfOk result (λ docs. docs ≡ map (λ item. pairs_of (out-Value item)) items) }
+{
+    let mut docs = List::new(alloc);
+    for item in items.into_vec() {
+        docs.add(document_in(alloc, item))?;
+    }
+    Ok(docs)
+}
+
+/// The documents of the array that the value is, moved out of it.
+fn documents_in(alloc: Global, value: Value) -> Result<List<Document>, NoMemory>
+    ensures { IfOk result (λ docs. docs ≡ documents_in (out-Value value)) }
+{
+    match value {
+        Value::Arr(items) => documents_among(alloc, items),
+        _ => Ok(List::new(alloc)),
+    }
+}
+
+/// Where the sequence of that name stands.
+fn place_of(sequences: &[Sequence], name: &str) -> Option<usize>
+    ensures value { result ≡ position (λ sequence. bytes_eq sequence.name name.now) sequences.now }
+    ensures within { IfSome result (λ place. place < length sequences.now) }
+{
+    sequences
+        .iter()
+        .position(|sequence| sequence.name.as_str() == name)
+}
 
 /// The documents of the sequence of that name.
-pub(crate) fn sequence_of<'a>(message: &'a Message, name: &str) -> Option<&'a List<Document>>
-    ensures { option_copied result ≡ sequence_of message.now.sequences name.now }
+fn documents_beside(alloc: Global, mut sequences: List<Sequence>, name: &str) -> List<Document>
+    ensures { result ≡ unwrap_or (sequence_of sequences name.now) [] }
 {
-    message
-        .sequences
-        .as_slice()
-        .iter()
-        .find(|sequence| sequence.name.as_str() == name)
-        .map(|sequence| &sequence.docs)
-}
-
-#[tactic(auto, using(bson_values::proofs::Soundness::storable_where))]
-fn document_may(document: &Document) -> bool
-    ensures { result ≡ may_be_inserted (document.now ∷ []) }
-{
-    match document.as_slice() {
-        [field, ..] => {
-            field.name.as_str() == "_id" && can_be_id(&field.value) && storable(document).is_ok()
-        }
-        [] => false,
+    match place_of(sequences.as_slice(), name) {
+        Some(place) => sequences.remove(place).docs,
+        None => List::new(alloc),
     }
 }
 
-fn documents_may(documents: &[Document]) -> bool
-    ensures { result ≡ may_be_inserted documents.now }
+/// The documents of that name, moved out of the message.
+pub(crate) fn documents_named(
+    alloc: Global,
+    message: Message,
+    name: &str,
+) -> Result<List<Document>, NoMemory>
+    ensures { IfOk result (λ docs. docs ≡ documents_of message name.now) }
 {
-    match documents {
-        [document] => document_may(document),
-        _ => false,
-    }
-}
-
-fn value_may(value: &Value) -> bool
-    ensures { result ≡ may_be_inserted (pairs_of (out-Value value.now) ∷ []) }
-{
-    match value {
-        Value::Doc(document) => document_may(document),
-        _ => false,
-    }
-}
-
-fn items_may(items: &[Value]) -> bool
-    ensures { result ≡ may_be_inserted (map (λ item. pairs_of (out-Value item)) items.now) }
-{
-    match items {
-        [item] => value_may(item),
-        _ => false,
-    }
-}
-
-fn array_may(value: &Value) -> bool
-    ensures { result ≡ may_be_inserted (documents_in (out-Value value.now)) }
-{
-    match value {
-        Value::Arr(items) => items_may(items.as_slice()),
-        _ => false,
-    }
-}
-
-fn sequence_may(message: &Message, name: &str) -> bool
-    ensures { result ≡ may_be_inserted (unwrap_or (sequence_of message.now.sequences name.now) []) }
-{
-    match sequence_of(message, name) {
-        Some(documents) => documents_may(documents.as_slice()),
-        None => false,
-    }
-}
-
-/// Whether the documents of that name, in a field or in a sequence, are one that may be inserted.
-pub(crate) fn may_be_inserted(message: &Message, name: &str) -> bool
-    ensures { result ≡ may_be_inserted (documents_of message.now name.now) }
-{
-    match message.body.get(name) {
-        Some(value) => array_may(value),
-        None => sequence_may(message, name),
+    let Message {
+        mut body,
+        sequences,
+        ..
+    } = message;
+    match body.place(name) {
+        Some(place) => documents_in(alloc, body.remove(place)?.value),
+        None => Ok(documents_beside(alloc, sequences, name)),
     }
 }

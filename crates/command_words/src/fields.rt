@@ -7,33 +7,35 @@ ghost use Rattle.command_words.specs.Told.{told};
 ghost use Rattle.command_words.specs.Refusal.{is_unknown, value_refusal, sequence_refusal, takes_of};
 ghost use Rattle.command_words.specs.Refusal.{fields_in, sequences_in, is_absent, has_unknown};
 
-use crate::body::{behind, own_in};
-use crate::documents::sequence_of;
+use crate::body::{behind, own_in, sequence_of};
 use crate::tables::{Row, fields_of, own_of, takes_of};
 use crate::takes::Takes;
-use crate::values::has_type;
+use crate::values::{has_type, in_range, may_be_items};
 use crate::word::Word;
-use bson_values::{Pair, Value};
-use case_tables::{Kind, WRONG_TYPE};
+use bson_values::{Document, Pair, Value};
+use case_tables::{FIELD_OUT_OF_RANGE, Kind, WRONG_TYPE};
 use op_msg::{Message, Sequence};
 
 /// Why a field that takes this is refused with this value.
 fn value_refusal(takes: Takes, value: &Value) -> Option<Kind>
     ensures { result ≡ value_refusal takes (out-Value value.now) }
 {
-    if has_type(takes, value) {
-        None
-    } else {
-        Some(WRONG_TYPE)
+    if !has_type(takes, value) {
+        return Some(WRONG_TYPE);
     }
+    if !in_range(takes, value) {
+        return Some(FIELD_OUT_OF_RANGE);
+    }
+    None
 }
 
-/// Why a field that takes this is refused as a sequence.
-fn sequence_refusal(takes: Takes) -> Option<Kind>
-    ensures { result ≡ sequence_refusal takes }
+/// Why a field that takes this is refused as a sequence of these.
+fn sequence_refusal(takes: Takes, docs: &[Document]) -> Option<Kind>
+    ensures { result ≡ sequence_refusal takes docs.now }
 {
     match takes {
-        Takes::Documents => None,
+        Takes::Documents if may_be_items(docs.len()) => None,
+        Takes::Documents => Some(FIELD_OUT_OF_RANGE),
         Takes::Unknown => None,
         _ => Some(WRONG_TYPE),
     }
@@ -71,7 +73,7 @@ pub(crate) fn sequences_refusal(word: Word, sequences: &[Sequence]) -> Option<Ki
     let mut rest = sequences;
     while let [sequence, others @ ..] = rest {
         let takes = takes_of(word, sequence.name.as_str());
-        if let Some(kind) = sequence_refusal(takes) {
+        if let Some(kind) = sequence_refusal(takes, sequence.docs.as_slice()) {
             return Some(kind);
         }
         rest = others;

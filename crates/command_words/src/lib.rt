@@ -6,6 +6,7 @@ mod command;
 mod documents;
 mod fields;
 mod names;
+mod operands;
 mod refusal;
 mod refused;
 mod tables;

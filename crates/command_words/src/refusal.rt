@@ -1,17 +1,15 @@
-ghost use Rattle.std.specs.Prelude.{◌≡◌, [], true, IfNone, nat_lt, length, codes};
-ghost use Rattle.command_words.specs.Body.{field_or, pairs_of};
+ghost use Rattle.std.specs.Prelude.{◌≡◌, true, IfNone};
 ghost use Rattle.std_words.specs.Reasons.{first};
 ghost use Rattle.naming.specs.Names.{is_collection_name};
-ghost use Rattle.command_words.specs.Refusal.{db_of, coll_of, rule_refusal, field_reasons};
+ghost use Rattle.command_words.specs.Body.{db_of, coll_of};
+ghost use Rattle.command_words.specs.Refusal.{field_reasons};
 ghost use Rattle.command_words.specs.Told.{Asks};
 
 use crate::body::{behind, coll_of, db_of, word_in};
-use crate::documents::may_be_inserted;
 use crate::fields::{self, has_unknown, lacks, own_refusal, sequences_refusal};
 use crate::names::has_twice;
 use crate::refused::CommandRefused;
 use crate::tables::is_free;
-use crate::values::pairs_of;
 use crate::word::Word;
 use bson_values::Value;
 use case_tables::{
@@ -21,27 +19,6 @@ use case_tables::{
 use naming::{is_collection_name, is_database_name};
 use op_msg::Message;
 use std::alloc::Global;
-
-/// Whether there is a filter that is not empty.
-fn has_filter(message: &Message) -> bool
-    ensures { result ≡ nat_lt 0 (length (field_or [] pairs_of message.now.body (codes "filter"))) }
-{
-    match message.body.get("filter") {
-        Some(value) => 0 < pairs_of(value).len(),
-        None => false,
-    }
-}
-
-/// What a command does not do yet.
-fn rule_refusal(word: Word, message: &Message) -> Option<Kind>
-    ensures { result ≡ rule_refusal word message.now }
-{
-    match word {
-        Word::Insert if !may_be_inserted(message, "documents") => Some(NOT_SUPPORTED),
-        Word::Find if has_filter(message) => Some(NOT_SUPPORTED),
-        _ => None,
-    }
-}
 
 fn field_refusal(word: Word, message: &Message) -> Option<Kind>
     ensures value { result ≡ first (field_reasons word message.now) }
@@ -65,10 +42,10 @@ fn field_refusal(word: Word, message: &Message) -> Option<Kind>
     if has_unknown(word, message) {
         return Some(NOT_SUPPORTED);
     }
-    rule_refusal(word, message)
+    None
 }
 
-/// The command that the message asks for, or why it is refused.
+/// The command that the message asks for, or why its form is refused.
 pub(crate) fn asked(alloc: Global, message: &Message) -> Result<Word, CommandRefused>
     ensures { Asks message.now result }
 {

@@ -62,7 +62,7 @@ static FREE: Table = Table {
     free: true,
 };
 
-static INSERT: Table = table! { Text { must "documents": Documents } };
+static INSERT: Table = table! { Text { must "documents": Documents, may "ordered": Truth } };
 
 static FIND: Table = table! { Text { may "filter": Document } };
 

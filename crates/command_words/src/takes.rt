@@ -4,7 +4,9 @@ pub(crate) enum Takes {
     Anything,
     Text,
     Document,
-    /// An array or a sequence of documents, which are not looked into.
+    /// A bool or a whole number.
+    Truth,
+    /// An array or a sequence of 1 to 1,000 documents, which are not looked into.
     Documents,
     /// There is no such field.
     Unknown,

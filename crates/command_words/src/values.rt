@@ -1,16 +1,28 @@
-ghost use Rattle.std.specs.Prelude.{◌≡◌};
+ghost use Rattle.std.specs.Prelude.{◌≡◌, length};
 ghost use Rattle.std.specs.List.{list_all};
 ghost use Rattle.bson_values.specs.declared.value.Value.TheViews.{out-Value};
-ghost use Rattle.command_words.specs.Body.{is_document, text_of, pairs_of};
-ghost use Rattle.command_words.specs.Refusal.{has_type};
+ghost use Rattle.command_words.specs.Body.{is_document, is_bool, is_whole, text_of, whole_of, truth_of, values_in};
+ghost use Rattle.command_words.specs.Refusal.{has_type, may_be_items, in_range};
 
 use crate::takes::Takes;
-use bson_values::{Pair, Value};
+use bson_values::Value;
 
 fn is_document(value: &Value) -> bool
     ensures { result ≡ is_document (out-Value value.now) }
 {
     matches!(value, Value::Doc(_))
+}
+
+fn is_bool(value: &Value) -> bool
+    ensures { result ≡ is_bool (out-Value value.now) }
+{
+    matches!(value, Value::Bool(_))
+}
+
+fn is_whole(value: &Value) -> bool
+    ensures { result ≡ is_whole (out-Value value.now) }
+{
+    matches!(value, Value::Int(_) | Value::Long(_))
 }
 
 fn all_documents(items: &[Value]) -> bool
@@ -26,10 +38,38 @@ pub(crate) fn has_type(takes: Takes, value: &Value) -> bool
     match takes {
         Takes::Text => matches!(value, Value::Str(_)),
         Takes::Document => is_document(value),
+        Takes::Truth => is_bool(value) || is_whole(value),
         Takes::Documents => match value {
             Value::Arr(items) => all_documents(items.as_slice()),
             _ => false,
         },
+        _ => true,
+    }
+}
+
+/// How many values the array has; 0 of any other value.
+fn count_of(value: &Value) -> usize
+    ensures { result ≡ length (values_in (out-Value value.now)) }
+{
+    match value {
+        Value::Arr(items) => items.len(),
+        _ => 0,
+    }
+}
+
+/// Whether so many items may come at once.
+pub(crate) fn may_be_items(count: usize) -> bool
+    ensures { result ≡ may_be_items count }
+{
+    1 <= count && count <= 1000
+}
+
+/// Whether a value of that type is in the range that is taken.
+pub(crate) fn in_range(takes: Takes, value: &Value) -> bool
+    ensures { result ≡ in_range takes (out-Value value.now) }
+{
+    match takes {
+        Takes::Documents => may_be_items(count_of(value)),
         _ => true,
     }
 }
@@ -44,12 +84,23 @@ pub(crate) fn text_of(value: &Value) -> &str
     }
 }
 
-/// The fields of a document; of no other value.
-pub(crate) fn pairs_of(value: &Value) -> &[Pair<Value>]
-    ensures { result.now ≡ pairs_of (out-Value value.now) }
+/// The whole number that the value is.
+fn whole_of(value: &Value) -> i64
+    ensures { result ≡ whole_of (out-Value value.now) }
 {
     match value {
-        Value::Doc(document) => document.as_slice(),
-        _ => &[],
+        Value::Int(number) => i64::from(*number),
+        Value::Long(number) => *number,
+        _ => 0,
+    }
+}
+
+/// The bool that the value is, or the whole number's.
+pub(crate) fn truth_of(value: &Value) -> bool
+    ensures { result ≡ truth_of (out-Value value.now) }
+{
+    match value {
+        Value::Bool(truth) => *truth,
+        _ => whole_of(value) != 0,
     }
 }

@@ -1,3 +1,8 @@
-pub mod Scripts
-pub mod Sending
-pub mod Carrying
+pub mod Numbered
+pub mod Items
+pub mod Executing
+mod Passing
+mod Starved
+mod Sending
+mod Finds
+mod Writes

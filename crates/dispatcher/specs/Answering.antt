@@ -1,27 +1,114 @@
 -- What answering one message does. Links between contracts; nobody has to read them for the main clause.
-use Rattle.std.specs.Prelude.{ℕ, ℤ, ◌≡◌, List, [], ◌∷◌}
+use Rattle.std.specs.Prelude.{ℕ, ℤ, ◌≡◌, ◌≤◌, ◌+◌, max, Bool, true, false, List, [], ◌∷◌, ◌++◌, length, map, Option, None, Some}
 use Rattle.history_lock.specs.declared.entry.Who.{Who}
+use Rattle.history_lock.specs.Places.{Each}
+use Rattle.bson_values.specs.declared.space.Space.{Space}
 use Rattle.op_msg.specs.declared.message.Message.{Message}
 use Rattle.op_msg.specs.Reply.{reply}
+use Rattle.command_words.specs.declared.command.Command.{Command}
+use Rattle.command_words.specs.declared.refused.CommandRefused.{CommandRefused}
+use Rattle.command_words.specs.declared.refused.CommandRefused.TheVariants as refused
+use Rattle.reply_words.specs.declared.ends.ItemEnd.{ItemEnd}
+use Rattle.reply_words.specs.declared.ends.ItemEnd.TheVariants as ended
+use Rattle.reply_words.specs.declared.replies.Reply.{Reply}
+use Rattle.reply_words.specs.declared.replies.Reply.TheVariants as it
+use Rattle.reply_words.specs.Replies.{document_of}
 use Rattle.doc_model.specs.declared.op.Op.{Op}
 use Rattle.doc_model.specs.declared.op.OpReply.{OpReply}
-use Rattle.doc_model.specs.Store.{Store}
-use Rattle.doc_model.specs.Step.{step}
-use Rattle.doc_model.specs.Run.{run}
-use Rattle.reply_words.specs.Replies.{document_of}
-use Rattle.dispatcher.specs.Answers.{told, answer}
-use Rattle.dispatcher.specs.Script.{ops_of, numbered, AreReplied}
+use Rattle.doc_model.specs.declared.op.OpReply.TheVariants as replied
+use Rattle.table_words.specs.Tables.{Tables}
+use Rattle.doc_history.specs.Part.{Views, Served}
+use Rattle.dispatcher.specs.declared.answers.Answered.{Answered}
+use Rattle.dispatcher.specs.declared.answers.Answered.TheVariants.{Whole, NoMemory}
+use Rattle.dispatcher.specs.Answers.{ops_in, Stops, Completes, end_of, told, command_document, normal}
+use Rattle.doc_model.specs.Step.{Keeps}
+use Rattle.dispatcher.specs.Script.{Executed, IsSound, numbered, numbers, ops_from}
 
--- an operation was a step of the store, and these bytes tell its reply
-pub record Performed (op : Op) (number request : ℤ) (old new : Store) (bytes : List ℕ) : Type 0 where
-  pub replied : OpReply
-  pub some : AreReplied (op ∷ []) (replied ∷ [])
-  pub stepped : (who : Who) (now : ℕ) → step who now op old replied new
-  pub bytes_are : bytes ≡ reply number request (document_of (told op replied))
+-- a message was executed at that moment, and its operations did this at the tables
+pub record Dealt (s : Tables) (old new : Views) (who who' : Who) (now : ℕ) (m : Message) (t : Executed) : Type 0 where
+  pub message : t.message ≡ m
+  pub moment : t.now ≡ now
+  pub sound : IsSound t
+  pub few : numbers t ≤ 1000
+  pub next : who' ≡ record who { op = who.op + numbers t }
+  pub served : Served s old new (ops_from who.seat who.link who.op (t ∷ []))
 
--- a message that comes after so many replies was answered with these bytes, and its operations made this of the store
-pub record Answered (m : Message) (replies : ℕ) (old new : Store) (bytes : List ℕ) : Type 0 where
-  pub replied : List OpReply
-  pub all : AreReplied (ops_of m) replied
-  pub ran : (seat link now : ℕ) → run old (numbered seat link replies now (ops_of m) replied) new
-  pub told : bytes ≡ answer replies m replied
+-- the answer to it, where it comes after k replies; or memory was wanting, and the caller tells that
+abbrev pub Gave : ℕ → Executed → Answered → Type 0
+Gave k t (Whole bytes) = (t.starved ≡ false) × (bytes ≡ normal k t.message t.replies)
+Gave k t NoMemory = t.starved ≡ true
+
+-- ---- the steps of it
+
+-- operations, the first of which is `who`, were done with these replies, and so many numbers were taken
+pub record Did (s : Tables) (old new : Views) (who who' : Who) (now : ℕ) (ops : List Op) (replies : List OpReply) (count : ℕ) : Type 0 where
+  pub next : who' ≡ record who { op = who.op + count }
+  pub served : Served s old new (numbered who.seat who.link who.op now ops replies)
+
+-- the bytes that answer a command whose operations are replied so; or memory was wanting, and they left the documents
+abbrev pub Told : Command → ℤ → ℤ → List OpReply → Answered → Type 0
+Told command number request replies (Whole bytes) =
+    Completes command replies × (bytes ≡ reply number request (command_document command replies))
+Told command number request replies NoMemory = (length replies ≤ length (ops_in command)) × Each Keeps replies
+
+-- a command was done
+pub record DoneBy (s : Tables) (old new : Views) (who who' : Who) (now : ℕ) (number request : ℤ) (command : Command)
+    (replies : List OpReply) (answered : Answered) : Type 0 where
+  pub did : Did s old new who who' now (ops_in command) replies (max 1 (length replies))
+  pub few : length replies ≤ 1000
+  pub told : Told command number request replies answered
+
+-- the answer to a message that asks for nothing that is done
+abbrev pub Refuses : ℤ → ℤ → Option ℕ → CommandRefused → Answered → Type 0
+Refuses number request foreign (refused.Refused kind) (Whole bytes) = bytes ≡ reply number request (document_of (it.Error kind foreign))
+Refuses number request foreign refused.NoMemory (Whole bytes) = ⊥
+Refuses number request foreign why NoMemory = Unit {0}
+
+-- what tells the reply of an operation in that collection, unless memory was wanting
+abbrev pub Tellable : Space → OpReply → Option Reply → Type 0
+Tellable space replied.NoMemory None = Unit {0}
+Tellable space replied.NoMemory (Some reply) = ⊥
+Tellable space answer (Some reply) = reply ≡ told space answer
+Tellable space answer None = ⊥
+
+-- the answer to a find in that collection that was replied so
+abbrev pub Finds : ℤ → ℤ → Space → OpReply → Answered → Type 0
+Finds number request space replied.NoMemory (Whole bytes) = ⊥
+Finds number request space answer (Whole bytes) = bytes ≡ reply number request (document_of (told space answer))
+Finds number request space answer NoMemory = Unit {0}
+
+-- ---- the items of a write
+
+-- the item failed
+abbrev pub fails : ItemEnd → Bool
+fails (ended.Done n) = false
+fails (ended.Refused kind) = true
+
+-- the operations so far were all tried: an ordered write goes on after those that went in alone
+abbrev pub GoesOn : Bool → List Op → List OpReply → Type 0
+GoesOn ordered [] [] = Unit {0}
+GoesOn ordered (op ∷ ops) (replied.Inserted ∷ replies) = GoesOn ordered ops replies
+GoesOn false (op ∷ ops) (error ∷ replies) = GoesOn false ops replies
+GoesOn ordered ops replies = ⊥
+
+-- one item was done: its reply, and how it ended; whether it was refused
+pub record DidOne (s : Tables) (old new : Views) (who who' : Who) (now : ℕ) (op : Op) (ends ends' : List ItemEnd) (failed : Bool)
+    (one : OpReply) : Type 0 where
+  pub next : who' ≡ record who { op = who.op + 1 }
+  pub served : Served s old new (record { who = who; now = now; op = op; reply = one } ∷ [])
+  pub ended : ends' ≡ ends ++ end_of one ∷ []
+  pub failed_is : failed ≡ fails (end_of one)
+
+-- the items were done up to here
+pub record DidItems (s : Tables) (old new : Views) (who who' : Who) (now : ℕ) (ordered : Bool) (ops : List Op) (ends : List ItemEnd)
+    (replies : List OpReply) : Type 0 where
+  pub goes : GoesOn ordered ops replies
+  pub did : Did s old new who who' now ops replies (length replies)
+  pub ended : ends ≡ map end_of replies
+
+-- they were done to the end
+pub record DidAll (s : Tables) (old new : Views) (who who' : Who) (now : ℕ) (ordered : Bool) (ops : List Op) (ends : List ItemEnd)
+    (replies : List OpReply) : Type 0 where
+  pub stops : Stops ordered ops replies
+  pub did : Did s old new who who' now ops replies (length replies)
+  pub ended : ends ≡ map end_of replies

@@ -1,46 +1,96 @@
--- What each message is answered.
-use Rattle.std.specs.Prelude.{ℕ, ℤ, pos, ◌+◌, ◌%◌, ◌^◌, if◌then◌else◌, List, [], ◌∷◌, Option, None, Some, option_map}
+-- What each message is answered whose operations are replied so.
+use Rattle.std.specs.Prelude.{ℕ, ℤ, pos, ◌≡◌, ◌+◌, ◌%◌, ◌^◌, Bool, true, false, if◌then◌else◌, List, [], ◌∷◌, map, Option, None, Some, option_map, is_some}
+use Rattle.bson_values.specs.declared.space.Space.{Space}
 use Rattle.bson_wire.specs.declared.foreign.Foreign.{Foreign}
+use Rattle.filter_syntax.specs.Meaning.{Doc}
 use Rattle.op_msg.specs.declared.message.Message.{Message}
 use Rattle.op_msg.specs.Reply.{reply}
 use Rattle.doc_model.specs.declared.op.Op.{Op}
-use Rattle.doc_model.specs.declared.op.Op.TheVariants as op
 use Rattle.doc_model.specs.declared.op.OpReply.{OpReply}
 use Rattle.doc_model.specs.declared.op.OpReply.TheVariants as replied
+use Rattle.doc_model.specs.Named.{space_of}
 use Rattle.command_words.specs.declared.command.Command.{Command}
-use Rattle.command_words.specs.declared.command.Command.TheVariants.{Insert, Find}
+use Rattle.command_words.specs.declared.command.Command.TheVariants.{Ping, Insert, Find}
 use Rattle.command_words.specs.Refusal.{refusal}
 use Rattle.command_words.specs.Meaning.{command_of}
+use Rattle.reply_words.specs.declared.ends.ItemEnd.{ItemEnd}
+use Rattle.reply_words.specs.declared.ends.ItemEnd.TheVariants as ended
 use Rattle.reply_words.specs.declared.replies.Reply.{Reply}
 use Rattle.reply_words.specs.declared.replies.Reply.TheVariants as it
-use Rattle.reply_words.specs.Replies.{document_of, fit_a_batch}
+use Rattle.reply_words.specs.Replies.{document_of, items_document, fit_a_batch}
 
--- what tells an operation's reply; so far a find is refused, by kind 29, whose documents do not go into one batch
-abbrev pub told : Op → OpReply → Reply
-told (op.Insert space doc) replied.Inserted = it.Inserted
-told (op.Insert space doc) (replied.Refused kind) = it.NotInserted kind
-told (op.Find space) (replied.Selected docs) = if fit_a_batch docs then it.Batch space docs else it.Error 29 None
-told op reply = it.Error 1 None
+-- ---- the operations of a message, and their replies
 
--- what a command is answered whose operations are replied so
-abbrev pub command_reply : Command → List OpReply → Reply
-command_reply (Insert op) (one ∷ []) = told op one
-command_reply (Find op) (one ∷ []) = told op one
-command_reply command replies = it.Done
+-- the operations of a command
+abbrev pub ops_in : Command → List Op
+ops_in Ping = []
+ops_in (Insert ops ordered) = ops
+ops_in (Find op) = op ∷ []
+
+-- the operations of a message; a refused one has none
+unfoldable pub ops_of : Message → List Op
+ops_of m = if is_some (refusal m) then [] else ops_in (command_of m)
+
+-- each operation of a write has a reply, but that an ordered one stops after its first error
+abbrev pub Stops : Bool → List Op → List OpReply → Type 0
+Stops ordered [] [] = Unit {0}
+Stops ordered (op ∷ ops) (replied.Inserted ∷ replies) = Stops ordered ops replies
+Stops true (op ∷ ops) (error ∷ replies) = replies ≡ []
+Stops false (op ∷ ops) (error ∷ replies) = Stops false ops replies
+Stops ordered ops replies = ⊥
+
+-- the operations of a command that was answered are replied so; a find is not answered for want of memory
+abbrev pub Completes : Command → List OpReply → Type 0
+Completes (Insert ops ordered) replies = Stops ordered ops replies
+Completes (Find op) (replied.NoMemory ∷ []) = ⊥
+Completes (Find op) (one ∷ []) = Unit {0}
+Completes (Find op) replies = ⊥
+Completes Ping replies = replies ≡ []
+
+abbrev pub CompletesBy : Option ℕ → Command → List OpReply → Type 0
+CompletesBy (Some kind) command replies = replies ≡ []
+CompletesBy None command replies = Completes command replies
+
+unfoldable pub IsComplete : Message → List OpReply → Type 0
+IsComplete m replies = CompletesBy (refusal m) (command_of m) replies
+
+-- ---- the document that tells them
+
+-- how an item of an insert ended: a fault is kind 1, and want of memory kind 24
+abbrev pub end_of : OpReply → ItemEnd
+end_of replied.Inserted = ended.Done 1
+end_of (replied.Refused kind) = ended.Refused kind
+end_of replied.NoMemory = ended.Refused 24
+end_of reply = ended.Refused 1
+
+-- what tells documents that were found; so far that is refused, by kind 29, where they do not go into one batch
+abbrev pub batch : Space → List Doc → Reply
+batch space docs = if fit_a_batch docs then it.Batch space docs else it.Error 29 None
+
+-- what tells the reply of an operation in that collection that reads
+abbrev pub told : Space → OpReply → Reply
+told space (replied.Selected docs) = batch space docs
+told space (replied.Refused kind) = it.Error kind None
+told space reply = it.Error 1 None
+
+abbrev pub command_document : Command → List OpReply → Doc
+command_document (Insert ops ordered) replies = items_document (map end_of replies)
+command_document (Find op) (one ∷ []) = document_of (told (space_of op) one)
+command_document command replies = document_of it.Done
 
 -- a refused message is answered with its refusal
-abbrev pub reply_by : Option ℕ → Option Foreign → Command → List OpReply → Reply
-reply_by (Some kind) foreign command replies = it.Error kind (option_map (λ (element : Foreign). element.code) foreign)
-reply_by None foreign command replies = command_reply command replies
-
--- what a message is answered whose operations are replied so
-abbrev pub reply_to : Message → List OpReply → Reply
-reply_to m replies = reply_by (refusal m) m.foreign (command_of m) replies
+abbrev pub document_by : Option ℕ → Option Foreign → Command → List OpReply → Doc
+document_by (Some kind) foreign command replies = document_of (it.Error kind (option_map (λ (element : Foreign). element.code) foreign))
+document_by None foreign command replies = command_document command replies
 
 -- the requestID of the reply that comes after k replies
 abbrev pub number_after : ℕ → ℤ
 number_after k = pos ((k + 1) % 2 ^ 31)
 
 -- the bytes of the reply to a message that comes after k replies
-unfoldable pub answer : ℕ → Message → List OpReply → List ℕ
-answer k m replies = reply (number_after k) m.request (document_of (reply_to m replies))
+unfoldable pub normal : ℕ → Message → List OpReply → List ℕ
+normal k m replies = reply (number_after k) m.request (document_by (refusal m) m.foreign (command_of m) replies)
+
+-- and of that which tells that memory was wanting, to a message with that requestID
+unfoldable pub no_memory : ℕ → ℤ → List ℕ
+no_memory k request = reply (number_after k) request (document_of (it.Error 24 None))

@@ -1,6 +1,11 @@
-//! Service: one message, one answer: its command is read, done over the store, and its reply told.
+//! Service: one message, one answer: its command is read, done over the tables, and its reply told.
 #![tactic(auto)]
 
 mod answers;
+mod commands;
+mod finding;
+mod telling;
+mod writing;
 
-pub use answers::answer;
+pub use answers::{Answered, answer};
+pub use telling::no_memory;

@@ -1,21 +1,16 @@
 -- What an insert does to the documents of its space, and of others.
-use Rattle.std.proofs.Common.{◌≡◌, ◌⊎◌, inl, inr, ⊎_elim, ℕ, Bool, true, false, nat_le, List, [], ◌∷◌, ◌++◌, length, Option, None, Some}
+use Rattle.std.proofs.Common.{◌≡◌, ◌⊎◌, inl, inr, ⊎_elim, ℕ, Bool, true, false, List, [], ◌∷◌, ◌++◌, Option, None, Some}
 use Rattle.std.proofs.Common.{refl, ap, sym, ◌∙◌, subst}
 use Rattle.std.proofs.lemmas.Bool.{and_parts}
 use Rattle.std.proofs.lemmas.Slice.Eq.{bytes_eq-Decides}
 use Rattle.std.specs.Str.{bytes_eq}
-use Rattle.bson_values.specs.declared.pairs.Pair.{Pair}
 use Rattle.bson_values.specs.declared.space.Space.{Space}
-use Rattle.bson_values.specs.declared.value.Value.{Value}
 use Rattle.bson_values.specs.Names.{same_space}
+use Rattle.filter_syntax.specs.Meaning.{Doc}
 use Rattle.doc_model.specs.declared.op.OpReply.{OpReply}
 use Rattle.doc_model.specs.declared.op.OpReply.TheVariants.{Inserted, Refused}
-use Rattle.doc_model.specs.declared.collection.Collection.{Collection}
-use Rattle.doc_model.specs.Store.{Store, collection_of, docs_in, docs_of, has_id, with_last}
-use Rattle.doc_model.specs.Step.{Meant, MOST_COLLECTIONS, are_spent, refused, inserted}
-
-abbrev Doc : Type 0
-Doc = List (Pair Value)
+use Rattle.doc_model.specs.Store.{Store, Collection, collection_of, docs_in, docs_of, has_id, with_docs}
+use Rattle.doc_model.specs.Step.{Meant, is_full, are_spent, same, by_kind, inserted}
 
 -- the test on spaces is equality
 pub space-equal : (a b : Space) → same_space a b ≡ true → a ≡ b
@@ -32,19 +27,16 @@ space-same a = rw ((bytes_eq-Decides a.db a.db).1 refl, (bytes_eq-Decides a.coll
 abbrev created : Space → Doc → Collection
 created space doc = record { space = space; docs = doc ∷ [] }
 
--- the document stands last in its collection
-docs-last : (space : Space) (doc : Doc) (cs : List Collection) (c : Collection) → collection_of space cs ≡ Some c
-    → docs_in (collection_of space (with_last space doc cs)) ≡ c.docs ++ doc ∷ []
-docs-last space doc [] c found = absurd cc
-docs-last space doc (d ∷ ds) c found = cases (same_space space d.space) refl (λ further. docs-last space doc ds c further)
+-- the collection of the space has what was put there
+pub docs-put : (space : Space) (docs : List Doc) (cs : List Collection) (c : Collection) → collection_of space cs ≡ Some c
+    → docs_in (collection_of space (with_docs space docs cs)) ≡ docs
+docs-put space docs [] c found = absurd cc
+docs-put space docs (d ∷ ds) c found = cases (same_space space d.space) refl (λ further. docs-put space docs ds c further)
   where
     cases : (b : Bool) → same_space space d.space ≡ b
-        → (collection_of space ds ≡ Some c → docs_in (collection_of space (with_last space doc ds)) ≡ c.docs ++ doc ∷ [])
-        → docs_in (collection_of space (with_last space doc (d ∷ ds))) ≡ c.docs ++ doc ∷ []
-    cases true e rest =
-        let here : Some d ≡ Some c = rw e at found in
-        let same : d ≡ c = cc in
-        rw e (rw e (ap (λ (x : Collection). x.docs ++ doc ∷ []) same))
+        → (collection_of space ds ≡ Some c → docs_in (collection_of space (with_docs space docs ds)) ≡ docs)
+        → docs_in (collection_of space (with_docs space docs (d ∷ ds))) ≡ docs
+    cases true e rest = rw e (rw e refl)
     cases false e rest = rw e (rw e (rest (rw e at found)))
 
 -- or in the one that was created last
@@ -60,14 +52,14 @@ docs-created space doc (d ∷ ds) absent = cases (same_space space d.space) refl
     cases false e rest = rw e (rest (rw e at absent))
 
 -- every other space has the documents that it had
-others-last : (space other : Space) (doc : Doc) (cs : List Collection) → same_space other space ≡ false
-    → docs_in (collection_of other (with_last space doc cs)) ≡ docs_in (collection_of other cs)
-others-last space other doc [] apart = refl
-others-last space other doc (d ∷ ds) apart = cases (same_space space d.space) refl (others-last space other doc ds apart)
+others-put : (space other : Space) (docs : List Doc) (cs : List Collection) → same_space other space ≡ false
+    → docs_in (collection_of other (with_docs space docs cs)) ≡ docs_in (collection_of other cs)
+others-put space other docs [] apart = refl
+others-put space other docs (d ∷ ds) apart = cases (same_space space d.space) refl (others-put space other docs ds apart)
   where
     cases : (b : Bool) → same_space space d.space ≡ b
-        → docs_in (collection_of other (with_last space doc ds)) ≡ docs_in (collection_of other ds)
-        → docs_in (collection_of other (with_last space doc (d ∷ ds))) ≡ docs_in (collection_of other (d ∷ ds))
+        → docs_in (collection_of other (with_docs space docs ds)) ≡ docs_in (collection_of other ds)
+        → docs_in (collection_of other (with_docs space docs (d ∷ ds))) ≡ docs_in (collection_of other (d ∷ ds))
     cases true e rest =
         let away : same_space other d.space ≡ false = subst (λ (x : Space). same_space other x ≡ false)
         (space-equal space d.space e) apart in
@@ -75,7 +67,7 @@ others-last space other doc (d ∷ ds) apart = cases (same_space space d.space) 
     cases false e rest = rw e (deeper (same_space other d.space) refl)
       where
         deeper : (b : Bool) → same_space other d.space ≡ b
-            → docs_in (collection_of other (d ∷ with_last space doc ds)) ≡ docs_in (collection_of other (d ∷ ds))
+            → docs_in (collection_of other (d ∷ with_docs space docs ds)) ≡ docs_in (collection_of other (d ∷ ds))
         deeper true there = rw there refl
         deeper false away = rw away rest
 
@@ -101,8 +93,8 @@ abbrev pub Came : OpReply → Space → Doc → Store → Store → Type 0
 Came reply space doc s t = (((kind : ℕ) × (reply ≡ Refused kind)) × (t ≡ s)) ⊎ Landed space doc s t
 
 -- a refusal
-abbrev came-refused : (reply : OpReply) (space : Space) (doc : Doc) (s t : Store) (kind : ℕ)
-    → record { reply = reply; store = t } ≡ refused kind s → Came reply space doc s t
+came-refused : (reply : OpReply) (space : Space) (doc : Doc) (s t : Store) (kind : ℕ)
+    → record { reply = reply; store = t } ≡ same (Refused kind) s → Came reply space doc s t
 came-refused reply space doc s t kind is = inl ((kind, ap (λ (m : Meant). m.reply) is), ap (λ (m : Meant). m.store) is)
 
 came : (reply : OpReply) (space : Space) (doc : Doc) (s t : Store) (found : Option Collection) → collection_of space s.collections ≡ found
@@ -116,17 +108,17 @@ came reply space doc s t (Some c) found is = cases (has_id doc c.docs) refl (are
         let done = rw q at (rw there at is) in
         let after = ap (λ (m : Meant). m.store.collections) done in
         let before = ap docs_in found in
+        let longer : List Doc = c.docs ++ doc ∷ [] in
         inr record {
           new = subst (λ (ds : List Doc). has_id doc ds ≡ false) (sym before) there;
-          last = ap (λ (cs : List Collection). docs_in (collection_of space cs)) after ∙ docs-last space doc s.collections c found
+          last = ap (λ (cs : List Collection). docs_in (collection_of space cs)) after ∙ docs-put space longer s.collections c found
               ∙ ap (λ (ds : List Doc). ds ++ doc ∷ []) (sym before);
           others = λ other apart. ap (λ (cs : List Collection). docs_in (collection_of other cs)) after
-              ∙ others-last space other doc s.collections apart;
+              ∙ others-put space other longer s.collections apart;
         }
-came reply space doc s t None found is = cases (nat_le MOST_COLLECTIONS (length s.collections)) refl (are_spent 2 s) refl
+came reply space doc s t None found is = cases (is_full s) refl (are_spent 2 s) refl
   where
-    cases : (full : Bool) → nat_le MOST_COLLECTIONS (length s.collections) ≡ full → (spent : Bool) → are_spent 2 s ≡ spent
-        → Came reply space doc s t
+    cases : (full : Bool) → is_full s ≡ full → (spent : Bool) → are_spent 2 s ≡ spent → Came reply space doc s t
     cases true full spent q = came-refused reply space doc s t 34 (rw full at is)
     cases false full true q = came-refused reply space doc s t 33 (rw q at (rw full at is))
     cases false full false q =
@@ -142,28 +134,36 @@ came reply space doc s t None found is = cases (nat_le MOST_COLLECTIONS (length 
         }
 
 -- an insert is refused, and changes nothing, or the document went in
-pub insert-came : (reply : OpReply) (space : Space) (doc : Doc) (s t : Store)
-    → record { reply = reply; store = t } ≡ inserted space doc s (collection_of space s.collections) → Came reply space doc s t
-insert-came reply space doc s t is = came reply space doc s t (collection_of space s.collections) refl is
+pub insert-came : (reply : OpReply) (space : Space) (doc : Doc) (s t : Store) (kind : Option ℕ)
+    → record { reply = reply; store = t } ≡ by_kind kind s (inserted space doc s (collection_of space s.collections))
+    → Came reply space doc s t
+insert-came reply space doc s t (Some kind) is = came-refused reply space doc s t kind is
+insert-came reply space doc s t None is = came reply space doc s t (collection_of space s.collections) refl is
 
 -- one that is replied `Inserted` went in
-pub insert-landed : (space : Space) (doc : Doc) (s t : Store)
-    → record { reply = Inserted; store = t } ≡ inserted space doc s (collection_of space s.collections) → Landed space doc s t
-insert-landed space doc s t is =
-    ⊎_elim (λ refused. let kind = refused.0.1 in absurd cc) (λ landed. landed) (insert-came Inserted space doc s t is)
+pub insert-landed : (space : Space) (doc : Doc) (s t : Store) (kind : Option ℕ)
+    → record { reply = Inserted; store = t } ≡ by_kind kind s (inserted space doc s (collection_of space s.collections))
+    → Landed space doc s t
+insert-landed space doc s t kind is =
+    ⊎_elim (λ refused. let kind = refused.0.1 in absurd cc) (λ landed. landed) (insert-came Inserted space doc s t kind is)
 
 -- a refused insert changes nothing
-pub insert-refused : (kind : ℕ) (space : Space) (doc : Doc) (s t : Store) (found : Option Collection)
+went : (space : Space) (doc : Doc) (s t : Store) (kind : ℕ) (found : Option Collection)
     → record { reply = Refused kind; store = t } ≡ inserted space doc s found → t ≡ s
-insert-refused kind space doc s t (Some c) is = cases (has_id doc c.docs) refl (are_spent 1 s) refl
+went space doc s t kind (Some c) is = cases (has_id doc c.docs) refl (are_spent 1 s) refl
   where
     cases : (twice : Bool) → has_id doc c.docs ≡ twice → (spent : Bool) → are_spent 1 s ≡ spent → t ≡ s
     cases true there spent q = ap (λ (m : Meant). m.store) (rw there at is)
     cases false there true q = ap (λ (m : Meant). m.store) (rw q at (rw there at is))
     cases false there false q = absurd cc (ap (λ (m : Meant). m.reply) (rw q at (rw there at is)))
-insert-refused kind space doc s t None is = cases (nat_le MOST_COLLECTIONS (length s.collections)) refl (are_spent 2 s) refl
+went space doc s t kind None is = cases (is_full s) refl (are_spent 2 s) refl
   where
-    cases : (full : Bool) → nat_le MOST_COLLECTIONS (length s.collections) ≡ full → (spent : Bool) → are_spent 2 s ≡ spent → t ≡ s
+    cases : (full : Bool) → is_full s ≡ full → (spent : Bool) → are_spent 2 s ≡ spent → t ≡ s
     cases true full spent q = ap (λ (m : Meant). m.store) (rw full at is)
     cases false full true q = ap (λ (m : Meant). m.store) (rw q at (rw full at is))
     cases false full false q = absurd cc (ap (λ (m : Meant). m.reply) (rw q at (rw full at is)))
+
+pub insert-refused : (kind : ℕ) (space : Space) (doc : Doc) (s t : Store) (words : Option ℕ)
+    → record { reply = Refused kind; store = t } ≡ by_kind words s (inserted space doc s (collection_of space s.collections)) → t ≡ s
+insert-refused kind space doc s t (Some word) is = ap (λ (m : Meant). m.store) is
+insert-refused kind space doc s t None is = went space doc s t kind (collection_of space s.collections) is

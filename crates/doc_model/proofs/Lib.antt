@@ -1,4 +1,4 @@
 pub mod Runs
 pub mod Inserts
+pub mod Refusals
 pub mod Ids
-pub mod Keeping

@@ -1,15 +1,16 @@
 -- One operation on the store.
 use Rattle.std.specs.Prelude.{ℕ, ◌≡◌, ◌+◌, ◌-◌, ◌^◌, Bool, if◌then◌else◌, nat_le, nat_lt, List, [], ◌∷◌, ◌++◌, length, Option, None, Some}
+use Rattle.std.specs.List.{filter}
 use Rattle.history_lock.specs.declared.entry.Who.{Who}
-use Rattle.bson_values.specs.declared.pairs.Pair.{Pair}
 use Rattle.bson_values.specs.declared.space.Space.{Space}
-use Rattle.bson_values.specs.declared.value.Value.{Value}
+use Rattle.filter_syntax.specs.Meaning.{Doc, holds}
+use Rattle.filter_syntax.specs.declared.filter.Filter.{Filter}
 use Rattle.doc_model.specs.declared.op.Op.{Op}
 use Rattle.doc_model.specs.declared.op.Op.TheVariants.{Insert, Find}
 use Rattle.doc_model.specs.declared.op.OpReply.{OpReply}
-use Rattle.doc_model.specs.declared.op.OpReply.TheVariants.{Inserted, Selected, Refused, NoMemory}
-use Rattle.doc_model.specs.declared.collection.Collection.{Collection}
-use Rattle.doc_model.specs.Store.{Store, collection_of, docs_of, has_id, with_last}
+use Rattle.doc_model.specs.declared.op.OpReply.TheVariants.{Inserted, Selected, Refused, Fault, NoMemory}
+use Rattle.doc_model.specs.Insert.{id_of, completed, not_stored}
+use Rattle.doc_model.specs.Store.{Store, Collection, collection_of, docs_of, has_id, with_docs}
 
 -- how many collections there may be
 abbrev pub MOST_COLLECTIONS : ℕ
@@ -23,36 +24,65 @@ LAST_NUMBER = 2 ^ 63 - 1
 abbrev pub are_spent : ℕ → Store → Bool
 are_spent count s = nat_lt LAST_NUMBER (s.next + count - 1)
 
+abbrev pub is_full : Store → Bool
+is_full s = nat_le MOST_COLLECTIONS (length s.collections)
+
 -- a reply, and the store after it
 pub record Meant : Type 0 where
   pub reply : OpReply
   pub store : Store
 
--- a refusal, which changes nothing
-abbrev pub refused : ℕ → Store → Meant
-refused kind s = record { reply = Refused kind; store = s }
+-- a reply that changes nothing
+abbrev pub same : OpReply → Store → Meant
+same reply s = record { reply = reply; store = s }
 
--- The document goes last in the collection, by one number, or into one that is created last, by two. It is refused where
--- another one has an equal `_id` (31), where no number is left (33), and where there are too many collections (34).
-abbrev pub inserted : Space → List (Pair Value) → Store → Option Collection → Meant
-inserted space doc s (Some c) =
-    if has_id doc c.docs then refused 31 s
-    else if are_spent 1 s then refused 33 s
-    else record { reply = Inserted; store = record { collections = with_last space doc s.collections; next = s.next + 1 } }
-inserted space doc s None =
-    if nat_le MOST_COLLECTIONS (length s.collections) then refused 34 s
-    else if are_spent 2 s then refused 33 s
-    else record {
-      reply = Inserted;
-      store = record { collections = s.collections ++ record { space = space; docs = doc ∷ [] } ∷ []; next = s.next + 2 };
-    }
+-- the first of these kinds, and else this
+abbrev pub refused : Store → List (Bool × ℕ) → Meant → Meant
+refused s [] done = done
+refused s (row ∷ rows) done = if row.0 then same (Refused row.1) s else refused s rows done
 
--- what an operation is replied, and the store after it, where memory lasts
+-- a refusal of this kind, if there is one, and else this
+abbrev pub by_kind : Option ℕ → Store → Meant → Meant
+by_kind (Some kind) s done = same (Refused kind) s
+by_kind None s done = done
+
+-- an insert that went in; the collection takes a number, and so does the change
+abbrev pub added : Space → Doc → Store → Collection → Meant
+added space doc s c =
+    record { reply = Inserted; store = record { collections = with_docs space (c.docs ++ doc ∷ []) s.collections; next = s.next + 1 } }
+
+abbrev pub created : Space → Doc → Store → Meant
+created space doc s =
+    record { reply = Inserted; store = record { collections = s.collections ++ record { space = space; docs = doc ∷ [] } ∷ []; next = s.next + 2 } }
+
+-- an insert of a document with its `_id` first: kind 31 where that is taken, 34 where a collection is one too many, 33 where numbers end
+abbrev pub inserted : Space → Doc → Store → Option Collection → Meant
+inserted space doc s (Some c) = refused s ((has_id doc c.docs, 31) ∷ (are_spent 1 s, 33) ∷ []) (added space doc s c)
+inserted space doc s None = refused s ((is_full s, 34) ∷ (are_spent 2 s, 33) ∷ []) (created space doc s)
+
+-- the documents that a filter holds of, in order
+abbrev pub matching : Filter → List Doc → List Doc
+matching it docs = filter (holds it) docs
+
+-- why the words of an operation are refused, at every store
+abbrev pub refused_by_words : Who → ℕ → Op → Option ℕ
+refused_by_words who now (Insert space doc) = not_stored (id_of who now doc) (completed who now doc)
+refused_by_words who now (Find space it) = None
+
+-- what an operation is replied, and the store after it, where memory and keeper last
 abbrev pub meant : Who → ℕ → Op → Store → Meant
-meant who now (Insert space doc) s = inserted space doc s (collection_of space s.collections)
-meant who now (Find space) s = record { reply = Selected (docs_of space s); store = s }
+meant who now (Insert space doc) s =
+    by_kind (refused_by_words who now (Insert space doc)) s
+    (inserted space (completed who now doc) s (collection_of space s.collections))
+meant who now (Find space it) s = same (Selected (matching it (docs_of space s))) s
 
--- one step: that, or want of memory, which changes nothing
+-- one step: that, or want of memory or a fault, which change nothing
 abbrev pub step : Who → ℕ → Op → Store → OpReply → Store → Type 0
 step who now op before NoMemory after = after ≡ before
+step who now op before Fault after = after ≡ before
 step who now op before reply after = record { reply = reply; store = after } ≡ meant who now op before
+
+-- a reply that leaves the documents
+abbrev pub Keeps : OpReply → Type 0
+Keeps Inserted = ⊥
+Keeps reply = Unit {0}

@@ -1,12 +1,16 @@
 -- A store of documents.
-use Rattle.std.specs.Prelude.{ℕ, Bool, false, if◌then◌else◌, List, [], ◌∷◌, ◌++◌, Option, None, Some}
+use Rattle.std.specs.Prelude.{ℕ, Bool, false, if◌then◌else◌, codes, List, [], ◌∷◌, Option, None, Some}
 use Rattle.std.specs.List.{list_any}
-use Rattle.bson_values.specs.declared.pairs.Pair.{Pair}
 use Rattle.bson_values.specs.declared.space.Space.{Space}
 use Rattle.bson_values.specs.declared.value.Value.{Value}
-use Rattle.bson_values.specs.Names.{same_space}
+use Rattle.bson_values.specs.Names.{first_of, same_space}
 use Rattle.bson_order.specs.Order.{is_same}
-use Rattle.doc_model.specs.declared.collection.Collection.{Collection}
+use Rattle.filter_syntax.specs.Meaning.{Doc}
+
+-- the documents of one space, in the order of their insertion
+pub record Collection : Type 0 where
+  pub space : Space
+  pub docs : List Doc
 
 -- the collections in the order of their creation, and the number that is given next
 pub record Store : Type 0 where
@@ -17,13 +21,17 @@ pub record Store : Type 0 where
 abbrev pub empty_store : Store
 empty_store = record { collections = []; next = 1 }
 
--- the documents have the same `_id`, which is the first value of each: an int32 is the same as the int64 of its number
-abbrev pub same_id : List (Pair Value) → List (Pair Value) → Bool
-same_id (one ∷ ones) (other ∷ others) = is_same one.value other.value
-same_id _ _ = false
+-- the values are there and the same: an int32 is the same as the int64 of its number
+abbrev pub are_same : Option Value → Option Value → Bool
+are_same (Some one) (Some other) = is_same one other
+are_same one other = false
+
+-- the documents have the same `_id`
+abbrev pub same_id : Doc → Doc → Bool
+same_id one other = are_same (first_of (codes "_id") one) (first_of (codes "_id") other)
 
 -- one of the documents has the `_id` of this one
-abbrev pub has_id : List (Pair Value) → List (List (Pair Value)) → Bool
+abbrev pub has_id : Doc → List Doc → Bool
 has_id doc others = list_any (same_id doc) others
 
 -- the collection of that space
@@ -32,16 +40,15 @@ collection_of space [] = None
 collection_of space (c ∷ cs) = if same_space space c.space then Some c else collection_of space cs
 
 -- the documents of a collection, none where it is absent
-abbrev pub docs_in : Option Collection → List (List (Pair Value))
+abbrev pub docs_in : Option Collection → List Doc
 docs_in None = []
 docs_in (Some c) = c.docs
 
 -- the documents of that space
-abbrev pub docs_of : Space → Store → List (List (Pair Value))
+abbrev pub docs_of : Space → Store → List Doc
 docs_of space s = docs_in (collection_of space s.collections)
 
--- the collections, with the document last in the one of that space
-abbrev pub with_last : Space → List (Pair Value) → List Collection → List Collection
-with_last space doc [] = []
-with_last space doc (c ∷ cs) =
-    if same_space space c.space then record c { docs = c.docs ++ doc ∷ [] } ∷ cs else c ∷ with_last space doc cs
+-- the collections, where that of the space has these documents
+abbrev pub with_docs : Space → List Doc → List Collection → List Collection
+with_docs space docs [] = []
+with_docs space docs (c ∷ cs) = if same_space space c.space then record c { docs = docs } ∷ cs else c ∷ with_docs space docs cs

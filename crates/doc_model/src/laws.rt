@@ -3,6 +3,7 @@ ghost use Rattle.doc_model.specs.Laws.{RefusalsChangeNothing, InsertedIsFound, O
 ghost use Rattle.doc_model.specs.Run.{Done, run, whos};
 ghost use Rattle.doc_model.specs.Store.{Store};
 
+#[tactic(auto, using(crate::proofs::Refusals::left))]
 pub fn a_refusal_changes_nothing()
     ensures { RefusalsChangeNothing }
 {}

@@ -1,4 +1,6 @@
 pub mod Growth
-pub mod Carrying
+pub mod Scripts
 pub mod Conversation
+pub mod Histories
 pub mod Whole
+pub mod Sure

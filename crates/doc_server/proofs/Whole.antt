@@ -1,6 +1,6 @@
 -- A connection over a fresh link, and its whole input.
-use Rattle.std.proofs.Common.{◌≡◌, ℕ, inl, inr, List, [], ◌∷◌, ◌++◌, length, take, sym, ap, subst, ◌∙◌}
-use Rattle.std.specs.Prelude.{Option, None, Some}
+use Rattle.std.proofs.Common.{◌≡◌, ℕ, List, [], ◌++◌, length, take, sym, ap, subst, ◌∙◌}
+use Rattle.std.specs.Prelude.{Option, None, Some, IfSome}
 use Rattle.std.proofs.lemmas.List.{append-nil}
 use Rattle.outside.specs.Told.{Tells, Grows, Shrinks}
 use Rattle.doc_server.specs.declared.why.Why.{Why}
@@ -10,11 +10,14 @@ use Rattle.op_msg.specs.Stream.{in_order, frames, BeginsNone}
 use Rattle.op_msg.specs.Reading.{short}
 use Rattle.op_msg.proofs.Framing.{none-empty, in_order-more}
 use Rattle.op_msg.proofs.Fronts.{short-none, fault-none, fault-more}
-use Rattle.doc_model.specs.Store.{Store, empty_store}
-use Rattle.doc_model.specs.Run.{run}
+use Rattle.outside.specs.declared.kept.KeptTable.{KeptTable}
+use Rattle.table_words.specs.Tables.{Tables}
+use Rattle.table_store.specs.Loading.{IsLoaded}
+use Rattle.doc_history.specs.Told.{Tcall}
 use Rattle.dispatcher.specs.Script.{messages, moments, ops_from, bytes_of}
-use Rattle.doc_server.specs.Talk.{Scene, Wrote, Timed, Ends, AtEnd, Talk, Talks}
-use Rattle.doc_server.specs.Program.{fresh, Shows, IsWhole, Spoken}
+use Rattle.doc_server.specs.Talk.{Scene, Wrote, Ends, AtEnd, Talk}
+use Rattle.doc_server.specs.Pipe.{Pipes}
+use Rattle.doc_server.specs.Program.{fresh, Shows, IsWhole, IsHistory, Headline}
 
 -- what came after nothing is all
 grows-fresh : (old new : Option (List ℕ)) (all : List ℕ) → Tells old [] → Grows old new all → Grows (Some []) new all
@@ -31,16 +34,6 @@ wrote-fresh ReadFault old new all none wrote = grows-fresh old new all none wrot
 wrote-fresh WriteFault old new all none wrote = (wrote.0, grows-fresh old new (take wrote.0 all) none wrote.1)
 wrote-fresh Long old new all none wrote = grows-fresh old new all none wrote
 wrote-fresh NoMemory old new all none wrote = grows-fresh old new all none wrote
-
-timed-fresh : (why : Why) (old new : Option (List ℕ)) (all : List ℕ) → Tells old [] → Timed why old new all → Timed why (Some []) new all
-timed-fresh Closed old new all none timed = grows-fresh old new all none timed
-timed-fresh (Truncated size) old new all none timed = grows-fresh old new all none timed
-timed-fresh (BadFrame kind place) old new all none timed = grows-fresh old new all none timed
-timed-fresh ReadFault old new all none timed = grows-fresh old new all none timed
-timed-fresh WriteFault old new all none timed = grows-fresh old new all none timed
-timed-fresh Long old new all none timed = grows-fresh old new all none timed
-timed-fresh NoMemory old new all none (inl timed) = inl (grows-fresh old new all none timed)
-timed-fresh NoMemory old new all none (inr timed) = inr (timed.0, grows-fresh old new (all ++ timed.0 ∷ []) none timed.1)
 
 -- the whole of an input is framed, and the end is as its rest shows
 framed : (why : Why) (input all rest left : List ℕ) (ms : List Message) → in_order input ms (rest ++ left) → Ends why all rest
@@ -69,29 +62,46 @@ is-whole why (Some input) (Some left) all rest ms came order ends at_end =
     framed why input all rest left ms (subst (λ b. in_order b ms (rest
     ++ left)) (sym came) (in_order-more all left rest ms order)) ends at_end
 
--- what a served link tells, where it was fresh and its store empty
-pub spoken : (seat number : ℕ) (input : Option (List ℕ)) (old new : Scene) (before after : Store) (why : Why) (commands : ℕ)
-    → before ≡ empty_store → Tells old.took [] → Tells old.wrote [] → Tells old.moments [] → old.left ≡ input
-    → Talks seat number old new before after why commands → AtEnd why new.left
-    → Spoken seat number input new after why commands
-spoken seat number input old new before after why commands empty took wrote timed left talks at_end =
-    let talk = talks.3 in
-    let came : Shrinks input new.left talks.0 = subst (λ told. Shrinks told new.left talks.0) left talk.came in
-    let whole : Talk seat number (fresh input) new empty_store after why commands talks.0 talks.1 talks.2 = record {
-      taken = grows-fresh old.took new.took talks.0 took talk.taken;
+-- what a served link tells, where it was fresh
+pub headline : (s left : Tables) (n m : ℕ) (h : List Tcall) (input : Option (List ℕ)) (old new : Scene) (why : Why) (commands : ℕ)
+    → Tells old.took [] → Tells old.wrote [] → Tells old.moments [] → old.left ≡ input → n ≡ 0
+    → Pipes s n h left m old new why commands → AtEnd why new.left → Headline s 0 h left m input new why commands
+headline s left n m h input old new why commands took wrote timed left_is zero pipes at_end =
+    let talk = pipes.3 in
+    let came : Shrinks input new.left pipes.0 = subst (λ told. Shrinks told new.left pipes.0) left_is talk.came in
+    let whole : Talk (fresh input) new why commands pipes.0 pipes.1 pipes.2 = record {
+      taken = grows-fresh old.took new.took pipes.0 took talk.taken;
       came = came;
       order = talk.order;
-      written = wrote-fresh why old.wrote new.wrote (bytes_of talks.1) wrote talk.written;
-      timed = timed-fresh why old.moments new.moments (moments talks.1) timed talk.timed;
+      written = wrote-fresh why old.wrote new.wrote (bytes_of pipes.1) wrote talk.written;
+      timed = grows-fresh old.moments new.moments (moments pipes.1) timed talk.timed;
       count = talk.count;
       sound = talk.sound;
-      ran = subst (λ s. run s (ops_from seat number 0 talks.1) after) empty talk.ran;
     } in (
-      talks.0,
-      talks.1,
-      talks.2,
-      whole,
-      talks.4,
-      is-whole why input new.left talks.0 talks.2
-          (messages talks.1) came talk.order talks.4 at_end,
+      pipes.1,
+      (
+        pipes.0,
+        pipes.2,
+        whole,
+        pipes.4,
+        is-whole why input new.left pipes.0 pipes.2 (messages pipes.1) came talk.order pipes.4 at_end,
+      ),
+      subst (λ k. IsHistory s k h left m (ops_from 0 0 0 pipes.1)) zero pipes.5,
     )
+
+-- the same of what may be there
+pub headlines : {A B : Type 0} (s : Tables) (n : ℕ) (input : Option (List ℕ)) (old : Scene) (world : Option (List KeptTable))
+    (ended : Option A) (closed : Option B) (new : A → Scene) (why : A → Why) (commands : A → ℕ) (h : B → List Tcall) (left : B → Tables)
+    (m : B → ℕ)
+    → IfSome ended (λ a. IfSome closed (λ b. Pipes s n (h b) (left b) (m b) old (new a) (why a) (commands a)))
+    → IfSome ended (λ a. AtEnd (why a) (new a).left) → Tells old.took [] → Tells old.wrote [] → Tells old.moments [] → old.left ≡ input
+    → n ≡ 0 → IfSome world (λ kept. IsLoaded kept s)
+    → IfSome ended (λ a. IfSome closed (λ b. (loaded : Tables) × IfSome world (λ kept. IsLoaded kept loaded)
+    × Headline loaded 0 (h b) (left b) (m b) input (new a) (why a) (commands a)))
+headlines s n input old world None closed new why commands h left m pipes at_end took wrote timed left_is zero loaded = tt
+headlines s n input old world (Some a) None new why commands h left m pipes at_end took wrote timed left_is zero loaded = tt
+headlines s n input old world (Some a) (Some b) new why commands h left m pipes at_end took wrote timed left_is zero loaded = (
+  s,
+  loaded,
+  headline s (left b) n (m b) (h b) input old (new a) (why a) (commands a) took wrote timed left_is zero pipes at_end,
+)

@@ -1,3 +1,4 @@
 pub mod Talk
 pub mod Steps
 pub mod Program
+pub mod Pipe

@@ -1,35 +1,29 @@
 -- What one step of a conversation does. Links between contracts; nobody has to read them for the main clause.
-use Rattle.std.specs.Prelude.{ℕ, ◌≡◌, ◌≢◌, ◌+◌, ◌≤◌, ◌<◌, List, [], ◌∷◌, ◌++◌, length, take, Result, Ok, Err}
+use Rattle.std.specs.Prelude.{ℕ, ◌≡◌, ◌≢◌, ◌+◌, ◌≤◌, ◌<◌, List, [], ◌∷◌, ◌++◌, length, take, Option, Result, Ok, Err}
 use Rattle.outside.specs.Told.{Grows, Shrinks}
+use Rattle.history_lock.specs.declared.entry.Who.{Who}
 use Rattle.op_msg.specs.declared.message.Message.{Message}
-use Rattle.doc_model.specs.declared.op.OpReply.{OpReply}
-use Rattle.doc_model.specs.Store.{Store}
-use Rattle.doc_model.specs.Run.{run}
-use Rattle.dispatcher.specs.Answers.{answer}
-use Rattle.dispatcher.specs.Script.{ops_of, numbered, AreReplied}
+use Rattle.table_words.specs.Tables.{Tables}
+use Rattle.doc_history.specs.Part.{Views}
+use Rattle.dispatcher.specs.Script.{Executed, answer}
+use Rattle.dispatcher.specs.Answering.{Dealt}
 use Rattle.doc_server.specs.Talk.{MOST_READ, Scene}
 use Rattle.doc_server.specs.declared.serve.Replied.{Replied}
 use Rattle.doc_server.specs.declared.serve.Replied.TheVariants as replied
 use Rattle.doc_server.specs.declared.why.Why.{Why}
 use Rattle.doc_server.specs.declared.why.Why.TheVariants as why
 
--- a message that comes after k replies was executed
-pub record Dealt (m : Message) (k : ℕ) (old new : Scene) (before after : Store) : Type 0 where
-  pub now : ℕ
-  pub replies : List OpReply
-  pub timed : Grows old.moments new.moments (now ∷ [])
-  pub all : AreReplied (ops_of m) replies
-  pub ran : (seat link : ℕ) → run before (numbered seat link k now (ops_of m) replies) after
+-- these bytes were written, or a front of them where a write failed
+abbrev pub Sends : Replied → Option (List ℕ) → Option (List ℕ) → List ℕ → Type 0
+Sends replied.Sent old new bytes = Grows old new bytes
+Sends replied.WriteFault old new bytes = (sent : ℕ) × Grows old new (take sent bytes)
 
--- it was, and its answer was written, or a front of it where a write failed; or it was not, for want of memory
-abbrev pub Answers : Replied → Message → ℕ → Scene → Scene → Store → Store → Type 0
-Answers replied.Sent m k old new before after =
-    (dealt : Dealt m k old new before after) × Grows old.wrote new.wrote (answer k m dealt.replies)
-Answers replied.WriteFault m k old new before after =
-    (dealt : Dealt m k old new before after) × (sent : ℕ)
-    × Grows old.wrote new.wrote (take sent (answer k m dealt.replies))
-Answers replied.NoMemory m k old new before after =
-    (new.wrote ≡ old.wrote) × (after ≡ before) × (now : ℕ) × Grows old.moments new.moments (now ∷ [])
+-- a message that comes after k replies was executed, and its answer went out so
+pub record Answers (s : Tables) (r : Replied) (m : Message) (k : ℕ) (old new : Scene) (before after : Views) (who who' : Who) : Type 0 where
+  pub done : Executed
+  pub timed : Grows old.moments new.moments (done.now ∷ [])
+  pub dealt : Dealt s before after who who' done.now m done
+  pub sends : Sends r old.wrote new.wrote (answer k done)
 
 -- how the input ends in a fetch: with `count` bytes before it, `buffer` those that are not used, `piece` those that came
 abbrev pub Stops : Why → ℕ → List ℕ → List ℕ → Type 0
@@ -61,4 +55,3 @@ end_of (Err end) = end
 abbrev pub fault_of : Replied → Why
 fault_of replied.Sent = why.Closed
 fault_of replied.WriteFault = why.WriteFault
-fault_of replied.NoMemory = why.NoMemory

@@ -1,11 +1,12 @@
--- One connection: what came, its script, what was written, what it made of the store, and how it ended.
-use Rattle.std.specs.Prelude.{ℕ, ◌≡◌, ◌≢◌, ◌⊎◌, ◌<◌, ◌^◌, List, [], ◌∷◌, ◌++◌, length, take, Option, Some}
+-- One connection: what came, its script, what was written, what its operations did at the tables, and how it ended.
+use Rattle.std.specs.Prelude.{ℕ, ◌≡◌, ◌≢◌, ◌<◌, ◌^◌, List, [], length, take, Option, Some}
 use Rattle.outside.specs.Told.{Grows, Shrinks, Tells}
 use Rattle.outside.specs.Causes.{Rose}
+use Rattle.history_lock.specs.Places.{Each}
 use Rattle.op_msg.specs.Stream.{in_order}
 use Rattle.op_msg.specs.Reading.{short, fault}
-use Rattle.doc_model.specs.Store.{Store}
-use Rattle.doc_model.specs.Run.{run}
+use Rattle.table_words.specs.Tables.{Tables}
+use Rattle.doc_history.specs.Part.{Views, Served}
 use Rattle.dispatcher.specs.Script.{Executed, messages, moments, ops_from, IsSound, bytes_of}
 use Rattle.doc_server.specs.declared.why.Why.{Why}
 use Rattle.doc_server.specs.declared.why.Why.TheVariants.{Closed, Truncated, BadFrame, ReadFault, WriteFault, Long, NoMemory}
@@ -18,11 +19,6 @@ MOST_READ = 2 ^ 40
 abbrev pub Wrote : Why → Option (List ℕ) → Option (List ℕ) → List ℕ → Type 0
 Wrote WriteFault old new all = (sent : ℕ) × Grows old new (take sent all)
 Wrote why old new all = Grows old new all
-
--- all of their moments were given; where memory ran out, perhaps that of one message more, which was not executed
-abbrev pub Timed : Why → Option (List ℕ) → Option (List ℕ) → List ℕ → Type 0
-Timed NoMemory old new all = Grows old new all ⊎ ((now : ℕ) × Grows old new (all ++ now ∷ []))
-Timed why old new all = Grows old new all
 
 -- how it ended, as all the bytes that came show, and those of them that stand behind the executed messages
 abbrev pub Ends : Why → List ℕ → List ℕ → Type 0
@@ -56,23 +52,20 @@ pub record Scene : Type 0 where
 abbrev pub scene : Option (List ℕ) → Option (List ℕ) → Option (List ℕ) → Option (List ℕ) → Scene
 scene took left wrote moments = record { took = took; left = left; wrote = wrote; moments = moments }
 
--- The connection of that seat and number, from where it and the store began to where they stand: these bytes came, of what was left; they
--- are
--- the messages of the script and a rest; their answers were written, and their moments given; and their operations were a run of the
--- store.
-pub record Talk (seat number : ℕ) (old new : Scene) (before after : Store) (why : Why) (commands : ℕ) (all : List ℕ)
-    (script : List Executed) (rest : List ℕ) : Type 0 where
+-- A connection from where it began to where it stands: these bytes came, of what was left; they are the messages of the script and a rest;
+-- their answers were written, and their moments given.
+pub record Talk (old new : Scene) (why : Why) (commands : ℕ) (all : List ℕ) (script : List Executed) (rest : List ℕ) : Type 0 where
   pub taken : Grows old.took new.took all
   pub came : Shrinks old.left new.left all
   pub order : in_order all (messages script) rest
   pub written : Wrote why old.wrote new.wrote (bytes_of script)
-  pub timed : Timed why old.moments new.moments (moments script)
+  pub timed : Grows old.moments new.moments (moments script)
   pub count : commands ≡ length script
-  pub sound : IsSound script
-  pub ran : run before (ops_from seat number 0 script) after
+  pub sound : Each IsSound script
 
--- the same, of some script that leaves a rest which shows the end
-abbrev pub Talks : ℕ → ℕ → Scene → Scene → Store → Store → Why → ℕ → Type 0
-Talks seat number old new before after why commands =
+-- The connection of that seat and number, over tables that began as s: some script, which leaves a rest that shows the end, and whose
+-- operations made the seat's places in the history.
+abbrev pub Talks : Tables → ℕ → ℕ → Scene → Scene → Views → Views → Why → ℕ → Type 0
+Talks s seat number old new before after why commands =
     (all : List ℕ) × (script : List Executed) × (rest : List ℕ)
-    × Talk seat number old new before after why commands all script rest × Ends why all rest
+    × Talk old new why commands all script rest × Ends why all rest × Served s before after (ops_from seat number 0 script)

@@ -1,17 +1,17 @@
-ghost use Rattle.std.specs.Prelude.{◌≡◌, ◌≤◌, ◌<◌, ◌==◌, ◌+◌, ◌^◌, ℕ, if◌then◌else◌, List, length, take, drop, IfErr, OnOk, OnErr};
+ghost use Rattle.std.specs.Prelude.{◌≡◌, ◌≤◌, ◌<◌, ◌==◌, ◌+◌, ◌^◌, ℕ, false, if◌then◌else◌, List, length, take, drop, IfErr, OnOk, OnErr};
 ghost use Rattle.outside.specs.Told.{Grows};
 ghost use Rattle.outside.specs.Causes.{HasCause};
-ghost use Rattle.doc_model.specs.Kept.{store_of};
 ghost use Rattle.doc_server.specs.Talk.{scene, Talks, AtEnd, Faults};
-ghost use Rattle.doc_server.specs.Steps.{Fetches, Moves, Answers, end_of, fault_of};
+ghost use Rattle.doc_server.specs.Steps.{Fetches, Moves, Answers, Sends, end_of, fault_of};
 
 use crate::why::Why;
-use dispatcher::answer;
-use doc_model::PlainStore;
+use dispatcher::{Answered, answer, no_memory};
+use history_lock::Who;
 use op_msg::{Message, Taken, take};
 use outside::{Failed, Link};
 use std::alloc::Global;
 use std_words::{head, tail};
+use table_words::TableDesk;
 
 /// A connection that was served to its end.
 #[derive(Drop)]
@@ -129,54 +129,78 @@ enum Replied {
     Sent,
     /// A front of it may have been written.
     WriteFault,
-    /// It was not made, and nothing was written.
-    NoMemory,
 }
 
-/// Executes a message that comes after so many replies, and writes its answer.
-fn reply_to<L: Link>(
-    alloc: Global,
-    link: &mut L,
-    store: &mut PlainStore,
-    replies: u64,
-    message: Message,
-) -> Replied
-    ensures answers { Answers result message replies
-        (scene (L.taken link.old) (L.left link.old) (L.written link.old) (L.moments link.old))
-        (scene (L.taken link.new) (L.left link.new) (L.written link.new) (L.moments link.new))
-        (store_of store.old) (store_of store.new) }
+fn send<L: Link>(link: &mut L, bytes: &[u8]) -> Replied
+    ensures sends { Sends result (L.written link.old) (L.written link.new) bytes.now }
     ensures taken { L.taken link.new ≡ L.taken link.old }
     ensures left { L.left link.new ≡ L.left link.old }
+    ensures moments { L.moments link.new ≡ L.moments link.old }
     ensures faults { Faults (fault_of result) (L.read_faults link.old) (L.read_faults link.new)
         (L.write_faults link.old) (L.write_faults link.new) }
 {
-    // No operation needs it yet.
-    let _moment = link.now();
-    let Ok(bytes) = answer(alloc, store, replies, message) else {
-        return Replied::NoMemory;
-    };
-    match write_all(link, bytes.as_slice()) {
+    match write_all(link, bytes) {
         Ok(()) => Replied::Sent,
         Err(Failed) => Replied::WriteFault,
     }
 }
 
-/// Answers each message as soon as it is whole, until the link or the memory ends it.
-fn converse<L: Link>(
+/// Executes a message that comes after so many replies, and writes its answer.
+fn reply_to<L: Link, T: TableDesk>(
     alloc: Global,
     link: &mut L,
-    store: &mut PlainStore,
-    seat: u64,
-    number: u64,
-) -> Said
-    ensures talks { Talks seat number
+    tables: &mut T,
+    who: &mut Who,
+    replies: u64,
+    message: Message,
+) -> Replied
+    requires free { T.held tables.old ≡ false }
+    requires room { who.old.op < 2 ^ 63 }
+    ensures free { T.held tables.new ≡ false }
+    ensures opening { T.opening tables.new ≡ T.opening tables.old }
+    ensures first { T.first tables.new ≡ T.first tables.old }
+    ensures answers { Answers (T.opening tables.old) result message replies
         (scene (L.taken link.old) (L.left link.old) (L.written link.old) (L.moments link.old))
         (scene (L.taken link.new) (L.left link.new) (L.written link.new) (L.moments link.new))
-        (store_of store.old) (store_of store.new) result.why result.commands }
+        (T.at tables.old) (T.at tables.new) who.old who.new }
+    ensures taken { L.taken link.new ≡ L.taken link.old }
+    ensures left { L.left link.new ≡ L.left link.old }
+    ensures faults { Faults (fault_of result) (L.read_faults link.old) (L.read_faults link.new)
+        (L.write_faults link.old) (L.write_faults link.new) }
+{
+    let now = link.now();
+    let request = message.request;
+    match answer(alloc, tables, who, now, replies, message) {
+        Answered::Whole(bytes) => send(link, bytes.as_slice()),
+        Answered::NoMemory => send(link, &no_memory(replies, request)),
+    }
+}
+
+/// Answers each message as soon as it is whole, until the link or the memory ends it.
+fn converse<L: Link, T: TableDesk>(
+    alloc: Global,
+    link: &mut L,
+    seat: u64,
+    number: u64,
+    tables: &mut T,
+) -> Said
+    requires { T.held tables.old ≡ false }
+    ensures free { T.held tables.new ≡ false }
+    ensures opening { T.opening tables.new ≡ T.opening tables.old }
+    ensures first { T.first tables.new ≡ T.first tables.old }
+    ensures talks { Talks (T.opening tables.old) seat number
+        (scene (L.taken link.old) (L.left link.old) (L.written link.old) (L.moments link.old))
+        (scene (L.taken link.new) (L.left link.new) (L.written link.new) (L.moments link.new))
+        (T.at tables.old) (T.at tables.new) result.why result.commands }
     ensures end { AtEnd result.why (L.left link.new) }
     ensures faults { Faults result.why (L.read_faults link.old) (L.read_faults link.new)
         (L.write_faults link.old) (L.write_faults link.new) }
 {
+    let mut who = Who {
+        seat,
+        link: number,
+        op: 0,
+    };
     let mut buffer = Vec::new(alloc);
     let mut used = 0;
     let mut count = 0;
@@ -185,10 +209,9 @@ fn converse<L: Link>(
     loop {
         match take(alloc, tail(&buffer, used)) {
             Taken::Whole { message, used: len } => {
-                match reply_to(alloc, link, store, commands, message) {
+                match reply_to(alloc, link, tables, &mut who, commands, message) {
                     Replied::Sent => {}
                     Replied::WriteFault => return Said::of(Why::WriteFault, commands + 1),
-                    Replied::NoMemory => return Said::of(Why::NoMemory, commands),
                 }
                 used += len as usize;
                 commands += 1;
@@ -207,25 +230,29 @@ fn converse<L: Link>(
     }
 }
 
-/// Serves one connection to its end, as the `number`th of the worker `seat`, over a store.
-pub fn serve_link<L: Link>(
+/// Serves one connection to its end, as the `number`th of the worker `seat`, at its desk.
+pub fn serve_link<L: Link, T: TableDesk>(
     alloc: Global,
     mut link: L,
     seat: u64,
     number: u64,
-    store: &mut PlainStore,
+    tables: &mut T,
 ) -> Ended<L>
+    requires { T.held tables.old ≡ false }
+    ensures free { T.held tables.new ≡ false }
+    ensures opening { T.opening tables.new ≡ T.opening tables.old }
+    ensures first { T.first tables.new ≡ T.first tables.old }
     ensures names { (result.seat ≡ seat) × (result.number ≡ number) }
-    ensures talks { Talks seat number
+    ensures talks { Talks (T.opening tables.old) seat number
         (scene (L.taken link) (L.left link) (L.written link) (L.moments link))
         (scene (L.taken result.link) (L.left result.link) (L.written result.link) (L.moments result.link))
-        (store_of store.old) (store_of store.new) result.why result.commands }
+        (T.at tables.old) (T.at tables.new) result.why result.commands }
     ensures end { AtEnd result.why (L.left result.link) }
     ensures faults { Faults result.why (L.read_faults link) (L.read_faults result.link)
         (L.write_faults link) (L.write_faults result.link) }
     ensures lost { result.lost ≡ 0 }
 {
-    let said = converse(alloc, &mut link, store, seat, number);
+    let said = converse(alloc, &mut link, seat, number, tables);
     link.shut();
     Ended {
         seat,

@@ -12,7 +12,7 @@ use Rattle.bson_values.specs.Measures.{items_size, value_size}
 use Rattle.bson_values.proofs.Totals.{digits_few, size_items}
 use Rattle.bson_spelling.specs.declared.form.Form.TheVariants.{Bson}
 use Rattle.bson_wire.specs.Spelling.{spell, held}
-use Rattle.bson_wire.proofs.Measured.{value_measured, measured}
+use Rattle.bson_wire.proofs.Measured.{value_measured}
 use Rattle.bson_wire.proofs.Sizes.{spell-push}
 use Rattle.bson_wire.proofs.Lengths.{size-Int, size-Long, size-Str, size-Doc}
 use Rattle.case_tables.specs.Refusals.{code_of, code_name_of, text_of}
@@ -20,9 +20,10 @@ use Rattle.case_tables.specs.Types.{type_name_of}
 use Rattle.case_tables.proofs.Bounds.{text_short, name_short, type_name_short}
 use Rattle.op_msg.specs.Limits.{MOST_REPLY}
 use Rattle.reply_words.specs.declared.replies.Reply.{Reply}
-use Rattle.reply_words.specs.declared.replies.Reply.TheVariants.{Done, Error, Inserted, NotInserted, Batch}
-use Rattle.reply_words.specs.Replies.{field, named, sentence, item_error, namespace, cursor, document_of, total_size}
+use Rattle.reply_words.specs.declared.replies.Reply.TheVariants.{Done, Error, Counted, Values, Batch}
+use Rattle.reply_words.specs.Replies.{field, number, named, sentence, namespace, cursor, document_of, total_size}
 use Rattle.reply_words.specs.Small.{IsSmall}
+use Rattle.reply_words.proofs.Ended.{number_sized}
 
 size-Arr : (items : List Value) → length (held Bson (value.Arr items)).1 ≡ items_size 0 (map value_size items) + 5
 size-Arr items = sym (value_measured (value.Arr items)) ∙ size_items items
@@ -47,21 +48,6 @@ sentence_short kind (Some code) =
           (named (type_name_of code)),
     ))
     (omega (arith, text_short kind))
-
-item_short : (kind : ℕ) → length (spell (item_error 0 kind)) ≤ 200
-item_short kind =
-    let one : List (Pair Value) = field "index" (value.Int (pos 0)) ∷ [] in
-    let two : List (Pair Value) = one ++ field "code" (value.Int (pos (code_of kind))) ∷ [] in
-    omega (
-      arith,
-      spell-push [] (codes "index") (value.Int (pos 0)),
-      spell-push one (codes "code") (value.Int (pos (code_of kind))),
-      spell-push two (codes "errmsg") (value.Str (text_of kind)),
-      size-Int (pos 0),
-      size-Int (pos (code_of kind)),
-      size-Str (text_of kind),
-      text_short kind,
-    )
 
 -- documents as items, with their names
 items_short : (place : ℕ) (docs : List (List (Pair Value))) → place + length docs ≤ 1000
@@ -95,9 +81,25 @@ cursor_short space docs small =
 
 pub fits : (reply : Reply) → IsSmall reply → length (spell (document_of reply)) ≤ MOST_REPLY
 fits Done small = omega (arith, spell-push [] (codes "ok") (value.Int (pos 1)), size-Int (pos 1))
-fits Inserted small =
-    let one : List (Pair Value) = field "n" (value.Int (pos 1)) ∷ [] in
-    omega (arith, spell-push [] (codes "n") (value.Int (pos 1)), spell-push one (codes "ok") (value.Int (pos 1)), size-Int (pos 1))
+fits (Counted n) small =
+    let one : List (Pair Value) = field "n" (number n) ∷ [] in
+    omega (
+      arith,
+      spell-push [] (codes "n") (number n),
+      spell-push one (codes "ok") (value.Int (pos 1)),
+      number_sized n,
+      size-Int (pos 1),
+    )
+fits (Values values) small =
+    let one : List (Pair Value) = field "values" (value.Arr values) ∷ [] in
+    omega (
+      arith,
+      small,
+      spell-push [] (codes "values") (value.Arr values),
+      spell-push one (codes "ok") (value.Int (pos 1)),
+      value_measured (value.Arr values),
+      size-Int (pos 1),
+    )
 fits (Error kind code) small =
     let one : List (Pair Value) = field "ok" (value.Int (pos 0)) ∷ [] in
     let two : List (Pair Value) = one ++ field "errmsg" (value.Str (sentence kind code)) ∷ [] in
@@ -114,22 +116,6 @@ fits (Error kind code) small =
       size-Str (code_name_of kind),
       sentence_short kind code,
       name_short kind,
-    )
-fits (NotInserted kind) small =
-    let errors = map value.Doc (item_error 0 kind ∷ []) in
-    let one : List (Pair Value) = field "n" (value.Int (pos 0)) ∷ [] in
-    let two : List (Pair Value) = one ++ field "writeErrors" (value.Arr (value.Doc (item_error 0 kind) ∷ [])) ∷ [] in
-    omega (
-      arith,
-      spell-push [] (codes "n") (value.Int (pos 0)),
-      spell-push one (codes "writeErrors") (value.Arr errors),
-      spell-push two (codes "ok") (value.Int (pos 1)),
-      size-Int (pos 0),
-      size-Int (pos 1),
-      size-Arr errors,
-      items_short 0 (item_error 0 kind ∷ []) (omega arith),
-      measured (item_error 0 kind),
-      item_short kind,
     )
 fits (Batch space docs) small =
     let one : List (Pair Value) = field "cursor" (value.Doc (cursor space docs)) ∷ [] in

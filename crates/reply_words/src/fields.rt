@@ -1,6 +1,7 @@
-ghost use Rattle.std.specs.Prelude.{◌≡◌, ◌++◌, ◌∷◌, [], OnOk, IfOk};
+ghost use Rattle.std.specs.Prelude.{◌≡◌, ◌++◌, ◌∷◌, [], OnOk};
+ghost use Rattle.reply_words.specs.Replies.{number};
 
-use bson_values::{Document, List, NoMemory, Text, Value};
+use bson_values::{Document, NoMemory, Text, Value};
 use std::alloc::Global;
 
 /// Adds a field last.
@@ -32,11 +33,13 @@ pub(crate) fn add_text(
     add(alloc, doc, name, Value::Str(text))
 }
 
-/// The value as the one item of a list.
-pub(crate) fn alone(alloc: Global, item: Value) -> Result<List<Value>, NoMemory>
-    ensures { IfOk result (λ items. items ≡ item ∷ []) }
+/// A count as a value.
+pub(crate) fn number(n: u64) -> Value
+    ensures { result ≡ number n }
 {
-    let mut items = List::new(alloc);
-    items.add(item)?;
-    Ok(items)
+    if n < 1 << 31 {
+        Value::Int(n as i32)
+    } else {
+        Value::Long(n.min(i64::MAX as u64) as i64)
+    }
 }

@@ -2,12 +2,19 @@
 #![tactic(auto)]
 
 mod batches;
+mod elements;
+mod ends;
 mod fields;
+mod items;
 mod laws;
 mod refusals;
 mod replies;
+mod sizes;
 
 pub use batches::fit_a_batch;
-pub use laws::a_small_reply_can_be_sent;
+pub use ends::ItemEnd;
+pub use items::{put_items, put_items_reply};
+pub use laws::{a_small_reply_can_be_sent, the_room_for_items_is_enough};
 pub use refusals::error;
 pub use replies::{Reply, done};
+pub use sizes::{items_size, most_items_size};

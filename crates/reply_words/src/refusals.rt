@@ -1,9 +1,9 @@
 ghost use Rattle.std.specs.Prelude.{◌≡◌, ◌++◌, ◌∷◌, [], pos, codes, IfOk, OnOk};
 ghost use Rattle.case_tables.specs.Refusals.{code_of};
 ghost use Rattle.reply_words.specs.declared.replies.Reply.TheVariants as reply;
-ghost use Rattle.reply_words.specs.Replies.{sentence, item_error, document_of};
+ghost use Rattle.reply_words.specs.Replies.{sentence, document_of};
 
-use crate::fields::{add, add_text, alone};
+use crate::fields::{add, add_text};
 use bson_values::{Document, NoMemory, Text, Value};
 use case_tables::{Kind, UNSUPPORTED_TYPE, code_name_of, code_of, text_of, type_name_of};
 use std::alloc::Global;
@@ -45,28 +45,5 @@ pub fn error(alloc: Global, kind: Kind, foreign: Option<u8>) -> Result<Document,
     add(alloc, &mut doc, "errmsg", Value::Str(sentence))?;
     add_code(alloc, &mut doc, kind)?;
     add_text(alloc, &mut doc, "codeName", code_name_of(kind))?;
-    Ok(doc)
-}
-
-fn item_error(alloc: Global, kind: Kind) -> Result<Document, NoMemory>
-    ensures { IfOk result (λ doc. doc ≡ item_error 0 kind) }
-{
-    let mut doc = Document::new(alloc);
-    add(alloc, &mut doc, "index", Value::Int(0))?;
-    add_code(alloc, &mut doc, kind)?;
-    add_text(alloc, &mut doc, "errmsg", text_of(kind))?;
-    Ok(doc)
-}
-
-/// `{n: 0, writeErrors: [..], ok: 1}`: what an insert is answered whose one document was refused.
-pub(crate) fn not_inserted(alloc: Global, kind: Kind) -> Result<Document, NoMemory>
-    ensures { IfOk result (λ doc. doc ≡ document_of (reply.NotInserted kind)) }
-{
-    let item = item_error(alloc, kind)?;
-    let errors = alone(alloc, Value::Doc(item))?;
-    let mut doc = Document::new(alloc);
-    add(alloc, &mut doc, "n", Value::Int(0))?;
-    add(alloc, &mut doc, "writeErrors", Value::Arr(errors))?;
-    add(alloc, &mut doc, "ok", Value::Int(1))?;
     Ok(doc)
 }

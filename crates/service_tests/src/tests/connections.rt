@@ -1,4 +1,6 @@
 //! Connections, byte for byte.
 
+mod bounds;
 mod commands;
+mod keepers;
 mod streams;

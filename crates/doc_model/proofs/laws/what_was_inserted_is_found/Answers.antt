@@ -1,8 +1,8 @@
+use Rattle.std.proofs.Common.{ap}
 use Rattle.doc_model.specs.declared.op.OpReply.TheVariants.{Selected}
+use Rattle.doc_model.specs.Step.{same, matching}
 use Rattle.doc_model.proofs.Inserts.{insert-landed}
 use Rattle.doc_model.proofs.laws.what_was_inserted_is_found.Goals as goal
 
 pub returns : goal.returns
-returns c = λ who other now then' space doc s t is.
-    let last = (insert-landed space doc s t is).last in
-    λ i. record { reply = Selected (last i); store = t }
+returns c = λ who other now then' space doc it s t is. ap (λ docs. same (Selected (matching it docs)) t) (insert-landed space _ s t _ is).last

@@ -1,12 +1,12 @@
 use Rattle.std.proofs.Common.{rules, arith}
-use Rattle.doc_server.proofs.Conversation.{begins, starves, turns, breaks, stops, reads, room-reads, used-turns, short-at}
+use Rattle.doc_server.proofs.Conversation.{begins, turns, breaks, stops, reads, room-reads, used-turns, short-at, numbers-turn}
 use Rattle.doc_server.proofs.serve.converse.Goals as goal
 
 pub returns-in-WriteFault-clause-talks : goal.returns-in-WriteFault-clause-talks
 returns-in-WriteFault-clause-talks g c =
     let known = c.loop-message.invariant in
     rw (c.of.ensures.why, c.of.ensures.commands)
-    (breaks _ _ _ _ _ _ _ _ _ _ _ _ _ _ _ _ known.going c.deref.ensures.value c.tail.ensures c.in-Whole.ensures
+    (breaks _ _ _ _ _ _ _ _ _ _ _ _ _ _ _ _ _ _ _ _ known.going known.opening c.deref.ensures.value c.tail.ensures c.in-Whole.ensures
     c.reply_to.ensures.taken c.reply_to.ensures.left c.in-WriteFault.ensures.answers)
 
 pub loop-message-preserved-in-Whole : goal.loop-message-preserved-in-Whole
@@ -17,10 +17,14 @@ loop-message-preserved-in-Whole g c =
       used = used-turns _ _ _ _ _ known.used c.deref.ensures.value c.tail.ensures front.within;
       limit = known.limit;
       room = omega (arith, known.room, front.some);
+      numbers = numbers-turn _ _ _ _ _ _ _ _ _ _ known.numbers c.in-Sent.ensures.answers;
+      free = search rules;
+      opening = search rules;
+      first = search rules;
       read_faults = search rules;
       write_faults = search rules;
-      going = turns _ _ _ _ _ _ _ _ _ _ _ _ _ _ _ _ known.going c.deref.ensures.value c.tail.ensures front c.reply_to.ensures.taken
-          c.reply_to.ensures.left c.in-Sent.ensures.answers;
+      going = turns _ _ _ _ _ _ _ _ _ _ _ _ _ _ _ _ _ _ _ _ known.going known.opening c.deref.ensures.value c.tail.ensures front
+          c.reply_to.ensures.taken c.reply_to.ensures.left c.in-Sent.ensures.answers;
     }
 
 pub loop-message-preserved : goal.loop-message-preserved
@@ -31,16 +35,20 @@ loop-message-preserved g c =
       used = omega arith;
       limit = fetched.2.2;
       room = room-reads _ _ _ _ _ _ _ _ known.room known.used c.drop_front.ensures fetched.2.3 fetched.2.0;
+      numbers = known.numbers;
+      free = known.free;
+      opening = known.opening;
+      first = known.first;
       read_faults = search rules;
       write_faults = search rules;
-      going = reads _ _ _ _ _ _ _ _ _ _ _ _ _ known.going c.drop_front.ensures fetched;
+      going = reads _ _ _ _ _ _ _ _ _ _ _ _ _ _ _ known.going c.drop_front.ensures fetched;
     }
 
 pub returns-in-Err-clause-talks : goal.returns-in-Err-clause-talks
 returns-in-Err-clause-talks g c =
     let known = c.loop-message.invariant in
     rw (c.of-in-Err.ensures.why, c.of-in-Err.ensures.commands)
-    (stops _ _ _ _ _ _ _ _ _ _ _ _ known.going c.drop_front.ensures
+    (stops _ _ _ _ _ _ _ _ _ _ _ _ _ _ known.going c.drop_front.ensures
     (short-at _ _ _ _ c.deref.ensures.value c.tail.ensures c.in-Short.ensures) c.in-Err.ensures.fetches)
 
 pub loop-message-init : goal.loop-message-init
@@ -48,13 +56,11 @@ loop-message-init g c = record {
   used = omega arith;
   limit = omega arith;
   room = search rules;
+  numbers = omega arith;
+  free = search rules;
+  opening = search rules;
+  first = search rules;
   read_faults = search rules;
   write_faults = search rules;
-  going = begins _ _ _ _ _ (search rules);
+  going = begins _ _ _ _ _ _ (search rules);
 }
-
-pub returns-in-NoMemory-reply_to-clause-talks : goal.returns-in-NoMemory-reply_to-clause-talks
-returns-in-NoMemory-reply_to-clause-talks g c =
-    let known = c.loop-message.invariant in
-    rw (c.of-in-NoMemory-reply_to.ensures.why, c.of-in-NoMemory-reply_to.ensures.commands)
-    (starves _ _ _ _ _ _ _ _ _ _ _ known.going c.reply_to.ensures.taken c.reply_to.ensures.left c.in-NoMemory-reply_to.ensures.answers)

@@ -1,13 +1,13 @@
 use super::rows::{
-    BESIDE, FIND, FIND_ALL, Fields, INSERT, INSERT_BESIDE, INSERT_LONG, NOTHING, PING, REFUSED,
-    Sequences, UNKNOWN, UNKNOWN_BESIDE,
+    ALLOWED, BESIDE, FIND, FIND_ALL, Fields, INSERT, INSERT_BESIDE, INSERT_LONG, NOTHING, PING,
+    REFUSED, Sequences, UNKNOWN, UNKNOWN_BESIDE,
 };
 use super::samples::message;
-use bson_values::{Document, NoMemory, Space, Value};
+use bson_values::{Document, List, NoMemory, Space, Text, Value};
 use bson_wire::Foreign;
 use command_words::{Command, CommandRefused};
 use doc_model::Op;
-use op_msg::Message;
+use op_msg::{Message, Sequence};
 use std::alloc::Global;
 use std::test::Fail;
 
@@ -39,6 +39,36 @@ fn each_refusal_has_its_kind(rt: HostRuntime) -> Result<(), Fail> {
     Ok(())
 }
 
+#[test]
+fn items_and_filters_are_no_refusals_of_a_message(rt: HostRuntime) -> Result<(), Fail> {
+    for (fields, beside) in &ALLOWED {
+        let message = message(rt.alloc(), fields, beside)?;
+        assert_eq!(rt; kind(rt.alloc(), message)?, 0);
+    }
+    Ok(())
+}
+
+/// An insert of so many empty documents, which come in a sequence.
+fn of_many(alloc: Global, count: u32) -> Result<Message, NoMemory> {
+    let mut message = message(alloc, INSERT_BESIDE, NOTHING)?;
+    let mut docs = List::new(alloc);
+    for _ in 0..count {
+        docs.add(Document::new(alloc))?;
+    }
+    let name = Text::of(alloc, "documents")?;
+    message.sequences.add(Sequence { name, docs })?;
+    Ok(message)
+}
+
+#[test]
+fn an_insert_has_1_to_1_000_documents(rt: HostRuntime) -> Result<(), Fail> {
+    for (count, wanted) in [(0, 8), (1, 0), (1_000, 0), (1_001, 8)] {
+        let message = of_many(rt.alloc(), count)?;
+        assert_eq!(rt; kind(rt.alloc(), message)?, wanted, "{count} documents");
+    }
+    Ok(())
+}
+
 /// What a message means whose command is on the collection `t.c`: a find, or an insert of a document with this `_id`.
 #[derive(Clone, Copy, Debug, PartialEq, Eq)]
 enum Asked {
@@ -59,7 +89,7 @@ fn id_of(doc: &Document) -> Asked {
 fn done(op: &Op) -> Asked {
     match op {
         Op::Insert { space, doc } if is_on(space) => id_of(doc),
-        Op::Find { space } if is_on(space) => Asked::Find,
+        Op::Find { space, .. } if is_on(space) => Asked::Find,
         _ => Asked::Other,
     }
 }
@@ -71,7 +101,10 @@ fn is_on(space: &Space) -> bool {
 fn command_asks(command: &Command) -> Asked {
     match command {
         Command::Ping => Asked::Ping,
-        Command::Insert { op } => done(op),
+        Command::Insert { ops, .. } => match ops.as_slice() {
+            [op] => done(op),
+            _ => Asked::Other,
+        },
         Command::Find { op } => done(op),
     }
 }

@@ -69,8 +69,67 @@ pub(super) const UNKNOWN_BESIDE: Sequences = &[("x", &[ID])];
 
 pub(super) const UNKNOWN: Fields = &[("frobnicate", COLL), ("$db", DB)];
 
+/// Bodies and sequences that are not refused as messages: a filter, several documents, and documents that are completed, or refused one by
+/// one.
+pub(super) static ALLOWED: [(Fields, Sequences); 7] = [
+    (
+        &[
+            ("find", COLL),
+            ("filter", Given::Document(&[("a", Inner::Number(1))])),
+            ("$db", DB),
+        ],
+        NOTHING,
+    ),
+    (
+        &[
+            ("insert", COLL),
+            (
+                "documents",
+                Given::Documents(&[ID, &[("_id", Inner::Number(2))]]),
+            ),
+            ("$db", DB),
+        ],
+        NOTHING,
+    ),
+    (
+        &[
+            ("insert", COLL),
+            (
+                "documents",
+                Given::Documents(&[&[("a", Inner::Number(2)), ("_id", Inner::Number(1))]]),
+            ),
+            ("$db", DB),
+        ],
+        NOTHING,
+    ),
+    (
+        &[
+            ("insert", COLL),
+            ("documents", Given::Documents(&[&[("_id", Inner::One)]])),
+            ("$db", DB),
+        ],
+        NOTHING,
+    ),
+    (
+        &[
+            ("insert", COLL),
+            (
+                "documents",
+                Given::Documents(&[&[("_id", Inner::Number(1)), ("a", Inner::Dotted)]]),
+            ),
+            ("$db", DB),
+        ],
+        NOTHING,
+    ),
+    (
+        INSERT_BESIDE,
+        &[("documents", &[ID, &[("_id", Inner::Number(2))]])],
+    ),
+    (INSERT_BESIDE, &[("documents", &[&[("_id", Inner::One)]])]),
+];
+
 /// Bodies and sequences with the kinds by which they are refused.
-pub(super) static REFUSED: [(Fields, Sequences, u32); 34] = [
+pub(super) static REFUSED: [(Fields, Sequences, u32); 27] = [
     (&[("insert", COLL), ("documents", DOCUMENT)], NOTHING, 14),
     (&[("find", COLL), ("$db", Given::Number(1))], NOTHING, 17),
     (&[("find", COLL), ("$db", Given::Text("a b"))], NOTHING, 27),
@@ -99,60 +158,6 @@ pub(super) static REFUSED: [(Fields, Sequences, u32); 34] = [
     (&[("find", COLL), ("$db", DB), ("$db", DB)], NOTHING, 13),
     (&[("frobnicate", COLL), ("$db", DB)], NOTHING, 25),
     (&[], NOTHING, 25),
-    (
-        &[
-            ("find", COLL),
-            ("filter", Given::Document(&[("a", Inner::Number(1))])),
-            ("$db", DB),
-        ],
-        NOTHING,
-        29,
-    ),
-    (
-        &[
-            ("insert", COLL),
-            (
-                "documents",
-                Given::Documents(&[ID, &[("_id", Inner::Number(2))]]),
-            ),
-            ("$db", DB),
-        ],
-        NOTHING,
-        29,
-    ),
-    (
-        &[
-            ("insert", COLL),
-            (
-                "documents",
-                Given::Documents(&[&[("a", Inner::Number(2)), ("_id", Inner::Number(1))]]),
-            ),
-            ("$db", DB),
-        ],
-        NOTHING,
-        29,
-    ),
-    (
-        &[
-            ("insert", COLL),
-            ("documents", Given::Documents(&[&[("_id", Inner::One)]])),
-            ("$db", DB),
-        ],
-        NOTHING,
-        29,
-    ),
-    (
-        &[
-            ("insert", COLL),
-            (
-                "documents",
-                Given::Documents(&[&[("_id", Inner::Number(1)), ("a", Inner::Dotted)]]),
-            ),
-            ("$db", DB),
-        ],
-        NOTHING,
-        29,
-    ),
     (&[("insert", COLL), ("$db", DB)], NOTHING, 14),
     (&[("ping", Given::Number(1))], NOTHING, 14),
     // The types come before the collection's name.
@@ -181,17 +186,7 @@ pub(super) static REFUSED: [(Fields, Sequences, u32); 34] = [
     ),
     (INSERT_BESIDE, &[("x", &[ID])], 14),
     (INSERT_BESIDE, &[("documents", &[ID]), ("x", &[])], 29),
-    (
-        INSERT_BESIDE,
-        &[("documents", &[ID, &[("_id", Inner::Number(2))]])],
-        29,
-    ),
-    (INSERT_BESIDE, &[("documents", &[])], 29),
-    (
-        INSERT_BESIDE,
-        &[("documents", &[&[("_id", Inner::One)]])],
-        29,
-    ),
+    (INSERT_BESIDE, &[("documents", &[])], 8),
     (FIND, &[("filter", &[])], 17),
     // The types come before the collection's name.
     (

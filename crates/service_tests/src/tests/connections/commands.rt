@@ -5,7 +5,7 @@ use std::alloc::Global;
 use std::test::Fail;
 
 /// `{insert: "c", documents: [{_id: 1}], $db: "t"}` with requestID 7. The number of the `_id` is at 66.
-const INSERT: [u8; 84] = [
+pub(super) const INSERT: [u8; 84] = [
     0x54, 0, 0, 0, 7, 0, 0, 0, 0, 0, 0, 0, 0xdd, 7, 0, 0, 0, 0, 0, 0, 0, 0x3f, 0, 0, 0, 2, 0x69,
     0x6e, 0x73, 0x65, 0x72, 0x74, 0, 2, 0, 0, 0, 0x63, 0, 4, 0x64, 0x6f, 0x63, 0x75, 0x6d, 0x65,
     0x6e, 0x74, 0x73, 0, 0x16, 0, 0, 0, 3, 0x30, 0, 0xe, 0, 0, 0, 0x10, 0x5f, 0x69, 0x64, 0, 1, 0,
@@ -13,19 +13,19 @@ const INSERT: [u8; 84] = [
 ];
 
 /// `{n: 1, ok: 1}`, the first reply, to requestID 7.
-const INSERTED: [u8; 41] = [
+pub(super) const INSERTED: [u8; 41] = [
     0x29, 0, 0, 0, 1, 0, 0, 0, 7, 0, 0, 0, 0xdd, 7, 0, 0, 0, 0, 0, 0, 0, 0x14, 0, 0, 0, 0x10, 0x6e,
     0, 1, 0, 0, 0, 0x10, 0x6f, 0x6b, 0, 1, 0, 0, 0, 0,
 ];
 
 /// The same as the second reply.
-const INSERTED_SECOND: [u8; 41] = [
+pub(super) const INSERTED_SECOND: [u8; 41] = [
     0x29, 0, 0, 0, 2, 0, 0, 0, 7, 0, 0, 0, 0xdd, 7, 0, 0, 0, 0, 0, 0, 0, 0x14, 0, 0, 0, 0x10, 0x6e,
     0, 1, 0, 0, 0, 0x10, 0x6f, 0x6b, 0, 1, 0, 0, 0, 0,
 ];
 
 /// `{find: "c", $db: "t"}` with requestID 8.
-const FIND: [u8; 49] = [
+pub(super) const FIND: [u8; 49] = [
     0x31, 0, 0, 0, 8, 0, 0, 0, 0, 0, 0, 0, 0xdd, 7, 0, 0, 0, 0, 0, 0, 0, 0x1c, 0, 0, 0, 2, 0x66,
     0x69, 0x6e, 0x64, 0, 2, 0, 0, 0, 0x63, 0, 2, 0x24, 0x64, 0x62, 0, 2, 0, 0, 0, 0x74, 0, 0,
 ];
@@ -173,6 +173,52 @@ const INSERT_DOUBLE_BESIDE: [u8; 105] = [
     1, 0x61, 0, 0, 0, 0, 0, 0, 0, 0xf0, 0x3f, 0,
 ];
 
+/// The same as the third reply.
+const INSERTED_THIRD: [u8; 41] = [
+    0x29, 0, 0, 0, 3, 0, 0, 0, 7, 0, 0, 0, 0xdd, 7, 0, 0, 0, 0, 0, 0, 0, 0x14, 0, 0, 0, 0x10, 0x6e,
+    0, 1, 0, 0, 0, 0x10, 0x6f, 0x6b, 0, 1, 0, 0, 0, 0,
+];
+
+/// `{insert: "c", documents: [{_id: 1}, {_id: 1}, {_id: 2}], $db: "t"}` with requestID 7.
+const INSERT_THREE: [u8; 118] = [
+    0x76, 0, 0, 0, 7, 0, 0, 0, 0, 0, 0, 0, 0xdd, 7, 0, 0, 0, 0, 0, 0, 0, 0x61, 0, 0, 0, 2, 0x69,
+    0x6e, 0x73, 0x65, 0x72, 0x74, 0, 2, 0, 0, 0, 0x63, 0, 4, 0x64, 0x6f, 0x63, 0x75, 0x6d, 0x65,
+    0x6e, 0x74, 0x73, 0, 0x38, 0, 0, 0, 3, 0x30, 0, 0xe, 0, 0, 0, 0x10, 0x5f, 0x69, 0x64, 0, 1, 0,
+    0, 0, 0, 3, 0x31, 0, 0xe, 0, 0, 0, 0x10, 0x5f, 0x69, 0x64, 0, 1, 0, 0, 0, 0, 3, 0x32, 0, 0xe,
+    0, 0, 0, 0x10, 0x5f, 0x69, 0x64, 0, 2, 0, 0, 0, 0, 0, 2, 0x24, 0x64, 0x62, 0, 2, 0, 0, 0, 0x74,
+    0, 0,
+];
+
+/// The same with `ordered: false` before the database.
+const INSERT_ANY: [u8; 128] = [
+    0x80, 0, 0, 0, 7, 0, 0, 0, 0, 0, 0, 0, 0xdd, 7, 0, 0, 0, 0, 0, 0, 0, 0x6b, 0, 0, 0, 2, 0x69,
+    0x6e, 0x73, 0x65, 0x72, 0x74, 0, 2, 0, 0, 0, 0x63, 0, 4, 0x64, 0x6f, 0x63, 0x75, 0x6d, 0x65,
+    0x6e, 0x74, 0x73, 0, 0x38, 0, 0, 0, 3, 0x30, 0, 0xe, 0, 0, 0, 0x10, 0x5f, 0x69, 0x64, 0, 1, 0,
+    0, 0, 0, 3, 0x31, 0, 0xe, 0, 0, 0, 0x10, 0x5f, 0x69, 0x64, 0, 1, 0, 0, 0, 0, 3, 0x32, 0, 0xe,
+    0, 0, 0, 0x10, 0x5f, 0x69, 0x64, 0, 2, 0, 0, 0, 0, 0, 8, 0x6f, 0x72, 0x64, 0x65, 0x72, 0x65,
+    0x64, 0, 0, 2, 0x24, 0x64, 0x62, 0, 2, 0, 0, 0, 0x74, 0, 0,
+];
+
+/// `{n: 1, writeErrors: [{index: 1, code: 11000, errmsg: "duplicate key"}], ok: 1}`, the first reply, to requestID 7.
+const ONE_OF_THREE: [u8; 114] = [
+    0x72, 0, 0, 0, 1, 0, 0, 0, 7, 0, 0, 0, 0xdd, 7, 0, 0, 0, 0, 0, 0, 0, 0x5d, 0, 0, 0, 0x10, 0x6e,
+    0, 1, 0, 0, 0, 4, 0x77, 0x72, 0x69, 0x74, 0x65, 0x45, 0x72, 0x72, 0x6f, 0x72, 0x73, 0, 0x3c, 0,
+    0, 0, 3, 0x30, 0, 0x34, 0, 0, 0, 0x10, 0x69, 0x6e, 0x64, 0x65, 0x78, 0, 1, 0, 0, 0, 0x10, 0x63,
+    0x6f, 0x64, 0x65, 0, 0xf8, 0x2a, 0, 0, 2, 0x65, 0x72, 0x72, 0x6d, 0x73, 0x67, 0, 0xe, 0, 0, 0,
+    0x64, 0x75, 0x70, 0x6c, 0x69, 0x63, 0x61, 0x74, 0x65, 0x20, 0x6b, 0x65, 0x79, 0, 0, 0, 0x10,
+    0x6f, 0x6b, 0, 1, 0, 0, 0, 0,
+];
+
+/// The same with `n` 2.
+const TWO_OF_THREE: [u8; 114] = [
+    0x72, 0, 0, 0, 1, 0, 0, 0, 7, 0, 0, 0, 0xdd, 7, 0, 0, 0, 0, 0, 0, 0, 0x5d, 0, 0, 0, 0x10, 0x6e,
+    0, 2, 0, 0, 0, 4, 0x77, 0x72, 0x69, 0x74, 0x65, 0x45, 0x72, 0x72, 0x6f, 0x72, 0x73, 0, 0x3c, 0,
+    0, 0, 3, 0x30, 0, 0x34, 0, 0, 0, 0x10, 0x69, 0x6e, 0x64, 0x65, 0x78, 0, 1, 0, 0, 0, 0x10, 0x63,
+    0x6f, 0x64, 0x65, 0, 0xf8, 0x2a, 0, 0, 2, 0x65, 0x72, 0x72, 0x6d, 0x73, 0x67, 0, 0xe, 0, 0, 0,
+    0x64, 0x75, 0x70, 0x6c, 0x69, 0x63, 0x61, 0x74, 0x65, 0x20, 0x6b, 0x65, 0x79, 0, 0, 0, 0x10,
+    0x6f, 0x6b, 0, 1, 0, 0, 0, 0,
+];
+
 /// A name, messages, and the replies to them.
 type Script = (
     &'static str,
@@ -180,7 +226,7 @@ type Script = (
     &'static [&'static [u8]],
 );
 
-static SCRIPTS: [Script; 9] = [
+static SCRIPTS: [Script; 12] = [
     (
         "a document goes in and comes out",
         &[&INSERT, &FIND],
@@ -233,6 +279,21 @@ static SCRIPTS: [Script; 9] = [
         &[&INSERT_DOUBLE_BESIDE],
         &[&UNSUPPORTED],
     ),
+    (
+        "a long of the same number is no other _id, and a text is",
+        &[&INSERT, &INSERT_LONG, &INSERT_TEXT],
+        &[&INSERTED, &SECOND, &DUPLICATE, &INSERTED_THIRD],
+    ),
+    (
+        "an ordered insert stops behind its first error",
+        &[&INSERT_THREE],
+        &[&ONE_OF_THREE],
+    ),
+    (
+        "an insert that is not ordered goes on",
+        &[&INSERT_ANY],
+        &[&TWO_OF_THREE],
+    ),
 ];
 
 /// The first script that is answered otherwise where each read is cut to so many bytes.
@@ -284,8 +345,6 @@ fn a_find_shows_at_most_101_documents(rt: HostRuntime) -> Result<(), Fail> {
 enum Given {
     Number(i32),
     Text(&'static str),
-    /// A document with one field `a`.
-    Filter,
 }
 
 type Fields = &'static [(&'static str, Given)];
@@ -317,23 +376,15 @@ static REFUSED: [(Fields, Told); 6] = [
     (&[("find", COLL), ("$db", DB), ("find", COLL)], TWICE),
     (&[("pong", COLL), ("$db", DB)], NO_COMMAND),
     (
-        &[("find", COLL), ("filter", Given::Filter), ("$db", DB)],
+        &[("find", COLL), ("x", Given::Number(1)), ("$db", DB)],
         NOT_SUPPORTED,
     ),
 ];
-
-fn number(alloc: Global, name: &str, number: i32) -> Result<Document, NoMemory> {
-    let mut doc = Document::new(alloc);
-    let name = Text::of(alloc, name)?;
-    doc.push(name, Value::Int(number)).map_err(|_| NoMemory)?;
-    Ok(doc)
-}
 
 fn value(alloc: Global, given: Given) -> Result<Value, NoMemory> {
     match given {
         Given::Number(number) => Ok(Value::Int(number)),
         Given::Text(words) => Ok(Value::Str(Text::of(alloc, words)?)),
-        Given::Filter => Ok(Value::Doc(number(alloc, "a", 1)?)),
     }
 }
 

@@ -1,13 +1,15 @@
-ghost use Rattle.std.specs.Prelude.{◌≤◌, Some, IfOk, IsSome};
+ghost use Rattle.std.specs.Prelude.{◌≡◌, ◌≤◌, false, Some, IfOk, IsSome};
 ghost use Rattle.outside.specs.MemoryLink.{IsFreshMemoryLink};
 ghost use Rattle.outside.specs.Source.{moments_of};
 
 use bson_values::{Bytes, List, NoMemory};
-use doc_model::PlainStore;
 use doc_server::{Ended, Finished, Why, ferret, serve_link};
-use outside::{Bad, Failed, Gate, Kept, Link, MemoryLink, MemoryWorld};
+use history_lock::Solo;
+use outside::{Bad, Failed, Gate, Kept, Link, MemoryLink, MemoryWorld, SureKeeper};
+use shared_books::SoloTables;
 use std::alloc::Global;
 use std::test::Fail;
+use table_store::Tables;
 
 /// `{ping: 1, $db: "admin"}` with requestID 1.
 pub(crate) const PING: [u8; 51] = [
@@ -39,7 +41,7 @@ pub(crate) const NOT_FOUND: [u8; 102] = [
     0,
 ];
 
-fn numbers(alloc: Global, numbers: &[u64]) -> Result<List<u64>, NoMemory> {
+pub(super) fn numbers(alloc: Global, numbers: &[u64]) -> Result<List<u64>, NoMemory> {
     Ok(List::from_vec(Vec::from_slice(alloc, numbers)?))
 }
 
@@ -100,9 +102,8 @@ pub(crate) fn outcome(
     let Finished {
         status,
         console,
-        store,
+        ..
     } = ferret(alloc, &line, &mut world);
-    drop(store);
     came_to(alloc, status, console)
 }
 
@@ -192,14 +193,13 @@ fn a_failed_write_ends_the_connection_at_once(rt: HostRuntime) -> Result<(), Fai
     Ok(())
 }
 
-/// A message whose body has so many levels: the innermost is empty, and each other has one field of empty name.
-fn nested(alloc: Global, levels: u32) -> Result<Bytes, NoMemory>
+/// The bytes of a document of so many levels: the innermost is empty, and each other has one field of empty name.
+pub(super) fn chain(alloc: Global, levels: u32) -> Result<Bytes, NoMemory>
     requires some { 1 ≤ levels }
     requires few { levels ≤ 1000 }
 {
     let size = 7 * levels - 2;
-    let mut bytes = Bytes::of(alloc, &(size + 21).to_le_bytes())?;
-    bytes.extend(&[1, 0, 0, 0, 0, 0, 0, 0, 0xdd, 7, 0, 0, 0, 0, 0, 0, 0])?;
+    let mut bytes = Bytes::new(alloc);
     for level in 1..levels {
         bytes.extend(&(size - 7 * (level - 1)).to_le_bytes())?;
         bytes.extend(&[3, 0])?;
@@ -211,18 +211,49 @@ fn nested(alloc: Global, levels: u32) -> Result<Bytes, NoMemory>
     Ok(bytes)
 }
 
+/// A message with that document as its body.
+fn nested(alloc: Global, levels: u32) -> Result<Bytes, NoMemory>
+    requires some { 1 ≤ levels }
+    requires few { levels ≤ 1000 }
+{
+    let body = chain(alloc, levels)?;
+    let header = [1, 0, 0, 0, 0, 0, 0, 0, 0xdd, 7, 0, 0, 0, 0, 0, 0, 0];
+    joined(
+        alloc,
+        &[&(7 * levels + 19).to_le_bytes(), &header, body.as_slice()],
+    )
+}
+
 /// A body whose field `b` is the bool 02.
 static BOOL_02: [u8; 30] = [
     0x1e, 0, 0, 0, 1, 0, 0, 0, 0, 0, 0, 0, 0xdd, 7, 0, 0, 0, 0, 0, 0, 0, 9, 0, 0, 0, 8, 0x62, 0, 2,
     0,
 ];
 
+/// A desk at no tables, in memory.
+fn desk(alloc: Global) -> Result<SoloTables<SureKeeper>, NoMemory>
+    ensures { IfOk result (λ desk. desk.held ≡ false) }
+{
+    let tables = Kept {
+        tables: List::new(alloc),
+    };
+    let Ok(tables) = Tables::load(alloc, SureKeeper::new(alloc, tables)?) else {
+        return Err(NoMemory);
+    };
+    // It tells that the tables are sound.
+    tables.len();
+    match Solo::new(alloc, tables) {
+        Ok(solo) => Ok(SoloTables::new(solo)),
+        Err(_) => Err(NoMemory),
+    }
+}
+
 /// How a connection over that input ends, behind a ping.
 fn end_behind_a_ping(alloc: Global, input: &[u8]) -> Result<Why, NoMemory> {
     let input = joined(alloc, &[&PING, input])?;
     let link = link(alloc, input.as_slice(), 65_536, &[], &[])?;
-    let mut store = PlainStore::new(alloc);
-    let Ended { why, .. } = serve_link(alloc, link, 0, 0, &mut store);
+    let mut tables = desk(alloc)?;
+    let Ended { why, .. } = serve_link(alloc, link, 0, 0, &mut tables);
     Ok(why)
 }
 
@@ -306,8 +337,8 @@ impl Link for Slow {
 
 fn served(alloc: Global, bad_writes: &[u64]) -> Result<Ended<Slow>, NoMemory> {
     let link = link(alloc, &PING, 65_536, &[], bad_writes)?;
-    let mut store = PlainStore::new(alloc);
-    Ok(serve_link(alloc, Slow { link, shuts: 0 }, 3, 5, &mut store))
+    let mut tables = desk(alloc)?;
+    Ok(serve_link(alloc, Slow { link, shuts: 0 }, 3, 5, &mut tables))
 }
 
 /// Whether a connection that fails at these writes ends so, has written so many bytes of the answer, and was shut once.

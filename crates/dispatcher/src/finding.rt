@@ -1,0 +1,112 @@
+ghost use Rattle.std.specs.Prelude.{◌≡◌, ◌<◌, ◌^◌, false, true, IfOk, IfSome, None, List as Seq};
+ghost use Rattle.naming.specs.Names.{is_valid};
+ghost use Rattle.doc_model.specs.declared.op.OpReply.{OpReply as Replied};
+ghost use Rattle.doc_model.specs.Named.{IsNamed, IsRead, space_of};
+ghost use Rattle.command_words.specs.declared.command.Command.TheVariants as command;
+ghost use Rattle.reply_words.specs.Small.{IsSmall};
+ghost use Rattle.reply_words.specs.declared.replies.Reply.TheVariants as reply;
+ghost use Rattle.dispatcher.specs.Answers.{batch};
+ghost use Rattle.dispatcher.specs.Answering.{DoneBy, Finds, Tellable};
+
+use crate::answers::Answered;
+use crate::telling::put;
+use bson_values::{Document, List, NoMemory, Space};
+use case_tables::{INTERNAL_ERROR, Kind, NOT_SUPPORTED};
+use doc_model::{Op, OpReply};
+use doc_store::perform;
+use history_lock::Who;
+use reply_words::{Reply, fit_a_batch};
+use std::alloc::Global;
+use table_words::TableDesk;
+
+/// The collection of an operation.
+fn space_of(alloc: Global, op: &Op) -> Result<Space, NoMemory>
+    ensures { IfOk result (λ space. space ≡ space_of op.now) }
+{
+    match op {
+        Op::Insert { space, .. } => space.copy(alloc),
+        Op::Find { space, .. } => space.copy(alloc),
+    }
+}
+
+fn error(kind: Kind) -> Reply
+    ensures value { result ≡ reply.Error kind None }
+    ensures small { IsSmall result }
+{
+    Reply::Error {
+        kind,
+        foreign: None,
+    }
+}
+
+/// What tells documents that were found. So far it is refused where they do not go into one batch.
+#[tactic(auto, using(crate::proofs::Sending::is_short))]
+fn batch(space: Space, docs: List<Document>) -> Reply
+    requires { is_valid space ≡ true }
+    ensures told { result ≡ batch space docs }
+    ensures small { IsSmall result }
+{
+    if fit_a_batch(docs.as_slice()) {
+        Reply::Batch { space, docs }
+    } else {
+        error(NOT_SUPPORTED)
+    }
+}
+
+/// What tells the reply of a find in that collection; nothing, where memory was wanting.
+fn found(space: Space, reply: OpReply) -> Option<Reply>
+    requires { is_valid space ≡ true }
+    ensures told { Tellable space reply result }
+    ensures small { IfSome result IsSmall }
+{
+    match reply {
+        OpReply::Selected(docs) => Some(batch(space, docs)),
+        OpReply::Refused(kind) => Some(error(kind)),
+        OpReply::NoMemory => None,
+        _ => Some(error(INTERNAL_ERROR)),
+    }
+}
+
+/// The answer to a find that was replied so.
+fn told(alloc: Global, number: i32, request: i32, space: Space, reply: OpReply) -> Answered
+    requires { is_valid space ≡ true }
+    ensures { Finds number request space reply result }
+{
+    let Some(told) = found(space, reply) else {
+        return Answered::NoMemory;
+    };
+    match put(alloc, number, request, told) {
+        Ok(bytes) => Answered::Whole(bytes),
+        Err(NoMemory) => Answered::NoMemory,
+    }
+}
+
+/// Finds documents, and answers with them.
+pub(crate) fn find<T: TableDesk>(
+    alloc: Global,
+    tables: &mut T,
+    who: &mut Who,
+    now: u64,
+    number: i32,
+    request: i32,
+    op: Op,
+) -> Answered
+    requires named { IsNamed op }
+    requires reads { IsRead op }
+    requires free { T.held tables.old ≡ false }
+    requires room { who.old.op < 2 ^ 63 }
+    ensures free { T.held tables.new ≡ false }
+    ensures opening { T.opening tables.new ≡ T.opening tables.old }
+    ensures first { T.first tables.new ≡ T.first tables.old }
+    ensures done { (replies : Seq Replied) × DoneBy (T.opening tables.old) (T.at tables.old) (T.at tables.new) who.old who.new now
+        number request (command.Find op) replies result }
+{
+    let first = *who;
+    who.op += 1;
+    let Ok(space) = space_of(alloc, &op) else {
+        drop(op);
+        return Answered::NoMemory;
+    };
+    let reply = perform(alloc, tables, first, now, op);
+    told(alloc, number, request, space, reply)
+}

@@ -1,0 +1,14 @@
+-- An insert that is replied before its call.
+use Rattle.std.proofs.Common.{◌≡◌, ◌⊎◌, inl, inr, ℕ, refl}
+use Rattle.std.specs.Prelude.{Option, Some}
+use Rattle.doc_model.specs.declared.op.OpReply.{OpReply}
+use Rattle.doc_model.specs.declared.op.OpReply.TheVariants.{Inserted, Selected, Refused, Fault, NoMemory}
+use Rattle.doc_store.specs.Replies.{Declines}
+
+pub declined : (words : Option ℕ) (reply : OpReply) → Declines words reply
+    → (reply ≡ NoMemory) ⊎ ((kind : ℕ) × (words ≡ Some kind) × (reply ≡ Refused kind))
+declined words NoMemory is = inl refl
+declined words (Refused kind) is = inr (kind, is, refl)
+declined words Inserted is = absurd is
+declined words (Selected docs) is = absurd is
+declined words Fault is = absurd is

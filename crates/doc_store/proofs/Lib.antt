@@ -1,0 +1,11 @@
+pub mod Completed
+pub mod Plain
+pub mod Keys
+pub mod Collections
+pub mod Lefts
+pub mod Trying
+pub mod Made
+pub mod Steps
+pub mod Found
+pub mod Performed
+pub mod Declined

@@ -1,0 +1,8 @@
+//! Store: operations on documents over any desk at the tables, each of which is one step of the one-thread store at its last entry.
+#![tactic(auto)]
+
+mod completing;
+mod operation;
+mod rows;
+
+pub use operation::perform;

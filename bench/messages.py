@@ -49,8 +49,8 @@ def insert(coll, doc):
     return message(element(0x02, "insert", string(coll)), element(0x04, "documents", documents), element(0x02, "$db", string("t")))
 
 
-def find(coll):
-    return message(element(0x02, "find", string(coll)), element(0x02, "$db", string("t")))
+def find(coll, *filter):
+    return message(element(0x02, "find", string(coll)), element(0x03, "filter", document(*filter)), element(0x02, "$db", string("t")))
 
 
 def person(number):
@@ -117,4 +117,5 @@ def main():
             wide(program, count)
 
 
-main()
+if __name__ == "__main__":
+    main()

@@ -1,0 +1,49 @@
+#!/usr/bin/env python3
+"""How many operations a second `ferretd pipe` does on a collection of 1,000 and of 10,000 documents, and how that grows.
+
+    (cd crates/ferretd && rt run -- pipe < stdin > /dev/null)     # leaves the proved program at out/ferretd
+    python3 bench/queries.py crates/ferretd/out/ferretd
+
+Each document has 236 bytes. Each time is the least of some runs, less that of the inserts alone.
+"""
+
+import sys
+
+from messages import element, find, insert, int32, person, seconds
+
+SIZES = 1_000, 10_000
+RUNS = 3
+
+
+def grouped(number, count):
+    """A person, whose age is that of nine others of so many."""
+    return person(number).replace(element(0x10, "age", int32(number)), element(0x10, "age", int32(number % (count // 10))))
+
+
+def rates(program, count):
+    """Operations a second, by their name."""
+    inserts = b"".join(insert("c", grouped(number, count)) for number in range(count))
+    alone = seconds(program, [inserts], RUNS)
+    rates = {"insert": count / alone}
+    for words, one, many in [
+        ("find by _id", find("c", element(0x10, "_id", int32(7))), 20_000),
+        ("find that 10 documents meet", find("c", element(0x10, "age", int32(7))), 1_000_000 // count),
+        ("find by $gte that 10 documents meet", find("c", element(0x03, "_id", at_least(count - 10))), 100_000 // count),
+    ]:
+        rates[words] = many / (seconds(program, [inserts, one * many], RUNS) - alone)
+    return rates
+
+
+def at_least(number):
+    operator = element(0x10, "$gte", int32(number))
+    return int32(len(operator) + 5) + operator + b"\0"
+
+
+def main():
+    few, many = (rates(sys.argv[1], count) for count in SIZES)
+    print(f"{'':36} {SIZES[0]:>12,} {SIZES[1]:>12,}  times as long")
+    for words, rate in few.items():
+        print(f"{words:36} {rate:10,.0f}/s {many[words]:10,.0f}/s  {rate / many[words]:8.1f}")
+
+
+main()

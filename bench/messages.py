@@ -53,6 +53,14 @@ def find(coll, *filter):
     return message(element(0x02, "find", string(coll)), element(0x03, "filter", document(*filter)), element(0x02, "$db", string("t")))
 
 
+def count(coll, *query):
+    return message(element(0x02, "count", string(coll)), element(0x03, "query", document(*query)), element(0x02, "$db", string("t")))
+
+
+def distinct(coll, key):
+    return message(element(0x02, "distinct", string(coll)), element(0x02, "key", string(key)), element(0x02, "$db", string("t")))
+
+
 def person(number):
     """A document of 236 bytes: an `_id`, five ints, a long, two strings, an array of three strings, a document of two fields."""
     ints = [element(0x10, name, int32(number)) for name in ["age", "height", "weight", "visits", "orders"]]

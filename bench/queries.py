@@ -9,7 +9,7 @@ Each document has 236 bytes. Each time is the least of some runs, less that of t
 
 import sys
 
-from messages import element, find, insert, int32, person, seconds
+from messages import count, distinct, element, find, insert, int32, person, seconds
 
 SIZES = 1_000, 10_000
 RUNS = 3
@@ -20,15 +20,20 @@ def grouped(number, count):
     return person(number).replace(element(0x10, "age", int32(number)), element(0x10, "age", int32(number % (count // 10))))
 
 
-def rates(program, count):
+def rates(program, size):
     """Operations a second, by their name."""
-    inserts = b"".join(insert("c", grouped(number, count)) for number in range(count))
+    inserts = b"".join(insert("c", grouped(number, size)) for number in range(size))
     alone = seconds(program, [inserts], RUNS)
-    rates = {"insert": count / alone}
+    rates = {"insert": size / alone}
     for words, one, many in [
         ("find by _id", find("c", element(0x10, "_id", int32(7))), 20_000),
-        ("find that 10 documents meet", find("c", element(0x10, "age", int32(7))), 1_000_000 // count),
-        ("find by $gte that 10 documents meet", find("c", element(0x03, "_id", at_least(count - 10))), 100_000 // count),
+        ("find that 10 documents meet", find("c", element(0x10, "age", int32(7))), 1_000_000 // size),
+        ("find by $gte that 10 documents meet", find("c", element(0x03, "_id", at_least(size - 10))), 100_000 // size),
+        ("find of all, more than a batch", find("c"), 100_000 // size),
+        ("count by $gte that half meet", count("c", element(0x03, "_id", at_least(size // 2))), 100_000 // size),
+        ("count of all", count("c"), 100_000 // size),
+        ("distinct, each document another", distinct("c", "_id"), 100_000 // size),
+        ("distinct, 10 documents one", distinct("c", "age"), 100_000 // size),
     ]:
         rates[words] = many / (seconds(program, [inserts, one * many], RUNS) - alone)
     return rates

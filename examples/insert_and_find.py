@@ -1,5 +1,5 @@
 #!/usr/bin/env python3
-"""Inserts documents through `ferretd pipe` and finds them again. The program's path is the one argument."""
+"""Inserts documents through `ferretd pipe`, finds them again, counts them and lists their names. The program's path is the one argument."""
 
 import struct
 import subprocess
@@ -69,6 +69,9 @@ asked = b"".join([
     message(2, {"insert": "people", "documents": [{"_id": 1, "name": "Eve"}], "$db": "town"}),
     message(3, {"insert": "people", "$db": "town"}, {"documents": [{"_id": 2, "name": "Eve"}]}),
     message(4, {"find": "people", "$db": "town"}),
+    message(5, {"find": "people", "filter": {"name": {"$gt": "Bob"}}, "$db": "town"}),
+    message(6, {"count": "people", "query": {"_id": {"$gte": 1}}, "$db": "town"}),
+    message(7, {"distinct": "people", "key": "name", "$db": "town"}),
 ])
 for reply in replies(subprocess.run([sys.argv[1], "pipe"], input=asked, stdout=subprocess.PIPE, check=True).stdout):
     print(reply)

@@ -22,11 +22,6 @@ abbrev pub is_document : Value-F Value → Bool
 is_document (Value-F.Doc pairs) = true
 is_document _ = false
 
--- a bool
-abbrev pub is_bool : Value-F Value → Bool
-is_bool (Value-F.Bool truth) = true
-is_bool _ = false
-
 -- an int or a long
 abbrev pub is_whole : Value-F Value → Bool
 is_whole (Value-F.Int number) = true

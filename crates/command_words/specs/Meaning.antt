@@ -1,12 +1,13 @@
 -- What a message asks for whose form is in order, or the kind by which the first of its operands is refused.
-use Rattle.std.specs.Prelude.{ℕ, ◌≤◌, ⊤, Bool, true, List, [], length, map, Option, option_map, codes, Result, Ok}
+use Rattle.std.specs.Prelude.{ℕ, unsigned_abs, ◌≤◌, ⊤, Bool, true, List, [], length, map, Option, option_map, codes, Result, Ok}
 use Rattle.std.specs.List.{All}
 use Rattle.std.specs.Option.{unwrap_or}
 use Rattle.std.specs.Result.{result_unwrap_or}
-use Rattle.std_words.specs.Steps.{◌>>=◌, fault_of}
+use Rattle.std_words.specs.Steps.{◌>>=◌}
 use Rattle.bson_values.specs.declared.pairs.Pair.{Pair}
 use Rattle.bson_values.specs.declared.space.Space.{Space}
 use Rattle.bson_values.specs.declared.value.Value.{Value}
+use Rattle.doc_shape.specs.Reading.{path_of}
 use Rattle.filter_syntax.specs.declared.filter.Filter.{Filter}
 use Rattle.filter_syntax.specs.Reading.{read}
 use Rattle.doc_model.specs.declared.op.Op.TheVariants as op
@@ -15,27 +16,31 @@ use Rattle.op_msg.specs.declared.message.Message.{Message}
 use Rattle.command_words.specs.declared.command.Command.{Command}
 use Rattle.command_words.specs.declared.command.Command.TheVariants as command
 use Rattle.command_words.specs.declared.word.Word.{Word}
-use Rattle.command_words.specs.declared.word.Word.TheVariants.{Ping, Insert, Find}
-use Rattle.command_words.specs.Body.{pairs_of, truth_of, field_or, documents_of, word_in, db_of, coll_of}
+use Rattle.command_words.specs.declared.word.Word.TheVariants.{Ping, Insert, Find, Count, Distinct}
+use Rattle.command_words.specs.Body.{pairs_of, text_of, truth_of, whole_of, field_or, documents_of, word_in, db_of, coll_of}
 
 -- the collection that stands beside the command's name, in the message's database
 unfoldable pub space_of : Message → Space
 space_of m = record { db = db_of m; coll = coll_of m }
 
--- the truth of the field of that name, or what stands for none
-abbrev pub truth_or : Bool → List (Pair Value) → List ℕ → Bool
-truth_or none fields name = field_or none truth_of fields name
-
 -- the filter that the field of that name reads as; an empty one stands for none
 abbrev pub filter_in : List (Pair Value) → List ℕ → Result Filter ℕ
 filter_in fields name = read (field_or [] pairs_of fields name)
+
+-- the whole number in the field of that name, without its sign; 0 stands for none
+abbrev pub count_in : List (Pair Value) → List ℕ → ℕ
+count_in fields name = field_or 0 (λ it. unsigned_abs (whole_of it)) fields name
 
 -- by the command; operands are read in the order of its fields
 abbrev pub meaning : Word → Message → Result Command ℕ
 meaning Ping m = Ok command.Ping
 meaning Insert m =
-    Ok (command.Insert (map (op.Insert (space_of m)) (documents_of m (codes "documents"))) (truth_or true m.body (codes "ordered")))
-meaning Find m = filter_in m.body (codes "filter") >>= λ filter. Ok (command.Find (op.Find (space_of m) filter))
+    Ok (command.Insert (map (op.Insert (space_of m)) (documents_of m (codes "documents"))) (field_or true truth_of m.body (codes "ordered")))
+meaning Find m = filter_in m.body (codes "filter") >>= λ filter. Ok (command.Find (op.Find (space_of m) (record { filter = filter })))
+meaning Count m = filter_in m.body (codes "query")
+    >>= λ filter. Ok (command.Count (op.Count (space_of m) filter (count_in m.body (codes "skip")) (count_in m.body (codes "limit"))))
+meaning Distinct m = path_of (field_or [] text_of m.body (codes "key"))
+    >>= λ path. filter_in m.body (codes "query") >>= λ filter. Ok (command.Distinct (op.Distinct (space_of m) path filter))
 
 -- by the command that the message names
 abbrev pub meaning_of : Message → Result Command ℕ
@@ -45,18 +50,15 @@ meaning_of m = unwrap_or (option_map (λ word. meaning word m) (word_in m.body))
 abbrev pub command_of : Message → Command
 command_of m = result_unwrap_or (meaning_of m) command.Ping
 
--- why one of its operands is refused, the first that is
-abbrev pub operand_refusal : Message → Option ℕ
-operand_refusal m = fault_of (meaning_of m)
-
--- the spaces of a command's operations have names that a database and a collection may have, and a find reads alone
+-- the spaces of a command's operations have names that a database and a collection may have, and one that reads reads alone
 abbrev pub AreNamed : Command → Type 0
 AreNamed command.Ping = ⊤
 AreNamed (command.Insert ops ordered) = All IsNamed ops
 AreNamed (command.Find one) = IsNamed one × IsRead one
+AreNamed (command.Count one) = IsNamed one × IsRead one
+AreNamed (command.Distinct one) = IsNamed one × IsRead one
 
 -- an insert has 1 to 1,000 operations
 abbrev pub AreFew : Command → Type 0
-AreFew command.Ping = ⊤
 AreFew (command.Insert ops ordered) = (1 ≤ length ops) × (length ops ≤ 1000)
-AreFew (command.Find one) = ⊤
+AreFew other = ⊤

@@ -1,10 +1,11 @@
 -- Why a message is refused: the first kind, in the order in which the reasons are looked at.
-use Rattle.std.specs.Prelude.{ℕ, ◌≡◌, ◌<◌, ◌⊎◌, Bool, true, false, not, ◌||◌, ◌&&◌, if◌then◌else◌, nat_le}
+use Rattle.std.specs.Prelude.{ℕ, pos, int_le, ◌≡◌, ◌<◌, ◌⊎◌, Bool, true, false, not, ◌||◌, ◌&&◌, if◌then◌else◌, nat_le}
 use Rattle.std.specs.Prelude.{List, [], ◌∷◌, length, drop}
 use Rattle.std.specs.Prelude.{Option, None, Some, is_some, is_none, find, option_map, codes}
 use Rattle.std.specs.List.{list_any, list_all}
 use Rattle.std.specs.Option.{IsSome, option_or, unwrap_or}
 use Rattle.std.specs.Str.{bytes_eq}
+use Rattle.std_words.specs.Steps.{fault_of}
 use Rattle.std_words.specs.Reasons.{when, first, first_of_all}
 use Rattle.bson_values.specs.declared.pairs.Pair.{Pair}
 use Rattle.bson_values.specs.declared.value.Value.{Value}
@@ -18,11 +19,11 @@ use Rattle.command_words.specs.declared.refused.CommandRefused.{CommandRefused}
 use Rattle.command_words.specs.declared.refused.CommandRefused.TheVariants.{Refused, NoMemory}
 use Rattle.command_words.specs.declared.word.Word.{Word}
 use Rattle.command_words.specs.declared.takes.Takes.{Takes}
-use Rattle.command_words.specs.declared.takes.Takes.TheVariants.{Text, Document, Truth, Documents, Unknown}
+use Rattle.command_words.specs.declared.takes.Takes.TheVariants.{Text, Document, Truth, Whole, Natural, Documents, Unknown}
 use Rattle.command_words.specs.Tables.{Field, shape_of, may}
-use Rattle.command_words.specs.Body.{is_document, is_bool, is_whole, values_in, own_in, made_or, field_or, sequence_of}
+use Rattle.command_words.specs.Body.{is_document, is_whole, whole_of, values_in, own_in, made_or, field_or, sequence_of}
 use Rattle.command_words.specs.Body.{word_in, db_of, coll_of, names_of, has_twice}
-use Rattle.command_words.specs.Meaning.{operand_refusal}
+use Rattle.command_words.specs.Meaning.{meaning_of}
 
 -- ---- a field
 
@@ -31,7 +32,10 @@ abbrev pub has_type : Takes → Value-F Value → Bool
 has_type Text (Value-F.Str text) = true
 has_type Text _ = false
 has_type Document value = is_document value
-has_type Truth value = is_bool value || is_whole value
+has_type Truth (Value-F.Bool truth) = true
+has_type Truth value = is_whole value
+has_type Whole value = is_whole value
+has_type Natural value = is_whole value
 has_type Documents (Value-F.Arr items) = list_all (λ item. is_document (out-Value item)) items
 has_type Documents _ = false
 has_type _ value = true
@@ -43,6 +47,7 @@ may_be_items count = nat_le 1 count && nat_le count 1000
 -- a value of that type is in the range that is taken
 abbrev pub in_range : Takes → Value-F Value → Bool
 in_range Documents value = may_be_items (length (values_in value))
+in_range Natural value = int_le (pos 0) (whole_of value)
 in_range _ value = true
 
 -- there is no field that takes this
@@ -91,32 +96,25 @@ has_unknown word m =
 -- the command's own value, the fields behind it, the sequences; then what is missing, the collection's name, what is unknown
 abbrev pub field_reasons : Word → Message → List (Option ℕ)
 field_reasons word m =
-    made_or None (value_refusal (shape_of word).own) (own_in m.body)
-    ∷ fields_in word (drop 1 m.body)
-    ∷ sequences_in word m.sequences
-    ∷ when (list_any (is_absent m) (shape_of word).fields) 14
-    ∷ when (not (is_collection_name (db_of m) (coll_of m))) 27
-    ∷ when (has_unknown word m) 29
-    ∷ []
+    made_or None (value_refusal (shape_of word).own) (own_in m.body) ∷ fields_in word (drop 1 m.body) ∷ sequences_in word m.sequences
+    ∷ when (list_any (is_absent m) (shape_of word).fields) 14 ∷ when (not (is_collection_name (db_of m) (coll_of m))) 27
+    ∷ when (has_unknown word m) 29 ∷ []
 
 -- a name given twice; the database; and then, where it is looked at, the rest
 abbrev pub word_reasons : Word → Message → List (Option ℕ)
 word_reasons word m =
-    when (has_twice (names_of m)) 13
-    ∷ when (is_none (first_of (codes "$db") m.body)) 14
-    ∷ when (not (field_or false (has_type Text) m.body (codes "$db"))) 17
-    ∷ when (not (is_database_name (db_of m))) 27
-    ∷ (if (shape_of word).free then None else first (field_reasons word m))
-    ∷ []
+    when (has_twice (names_of m)) 13 ∷ when (is_none (first_of (codes "$db") m.body)) 14
+    ∷ when (not (field_or false (has_type Text) m.body (codes "$db"))) 17 ∷ when (not (is_database_name (db_of m))) 27
+    ∷ (if (shape_of word).free then None else first (field_reasons word m)) ∷ []
 
 -- all but the operands: for a foreign element, wherever in the body or in a sequence it stood; for no command; for its words
 abbrev pub form_refusal : Message → Option ℕ
 form_refusal m = first (
     when (is_some m.foreign) 2 ∷ unwrap_or (option_map (λ word. first (word_reasons word m)) (word_in m.body)) (Some 25) ∷ [])
 
--- why a message is refused: for its form, and then for an operand
+-- why a message is refused: for its form, and then for the first of its operands that is refused
 abbrev pub refusal : Message → Option ℕ
-refusal m = option_or (form_refusal m) (operand_refusal m)
+refusal m = option_or (form_refusal m) (fault_of (meaning_of m))
 
 -- the names of several sequences are compared, which takes memory: of a known command, with no foreign element
 abbrev pub MayWant : Message → Type 0

@@ -2,9 +2,9 @@
 use Prim.Native.String.{String}
 use Rattle.std.specs.Prelude.{ℕ, Bool, true, false, List, [], ◌∷◌, codes}
 use Rattle.command_words.specs.declared.word.Word.{Word}
-use Rattle.command_words.specs.declared.word.Word.TheVariants.{Ping, Insert, Find}
+use Rattle.command_words.specs.declared.word.Word.TheVariants.{Ping, Insert, Find, Count, Distinct}
 use Rattle.command_words.specs.declared.takes.Takes.{Takes}
-use Rattle.command_words.specs.declared.takes.Takes.TheVariants.{Anything, Text, Document, Truth, Documents}
+use Rattle.command_words.specs.declared.takes.Takes.TheVariants.{Anything, Text, Document, Truth, Whole, Natural, Documents}
 
 -- a field, what it takes, and whether it has to be there
 pub record Field : Type 0 where
@@ -29,9 +29,11 @@ abbrev pub on_coll : List Field → Shape
 on_coll fields = record { own = Text; fields = fields; free = false }
 
 unfoldable pub commands : List (List ℕ × Word)
-commands = (codes "ping", Ping) ∷ (codes "insert", Insert) ∷ (codes "find", Find) ∷ []
+commands = (codes "ping", Ping) ∷ (codes "insert", Insert) ∷ (codes "find", Find) ∷ (codes "count", Count) ∷ (codes "distinct", Distinct) ∷ []
 
 unfoldable pub shape_of : Word → Shape
 shape_of Ping = record { own = Anything; fields = []; free = true }
 shape_of Insert = on_coll (must Documents "documents" ∷ may Truth "ordered" ∷ [])
 shape_of Find = on_coll (may Document "filter" ∷ [])
+shape_of Count = on_coll (may Document "query" ∷ may Natural "skip" ∷ may Whole "limit" ∷ [])
+shape_of Distinct = on_coll (must Text "key" ∷ may Document "query" ∷ [])

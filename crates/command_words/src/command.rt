@@ -7,12 +7,12 @@ ghost use Rattle.command_words.specs.Told.{Gives};
 
 use crate::body::{coll_of, db_of};
 use crate::documents::documents_named;
-use crate::operands::{filter_in, truth_or};
+use crate::operands::{count_in, filter_in, path_in, truth_or};
 use crate::refusal::asked;
 use crate::refused::CommandRefused;
 use crate::word::Word;
 use bson_values::{Document, List, NoMemory, Space, Text};
-use doc_model::Op;
+use doc_model::{Op, Query};
 use op_msg::Message;
 use std::alloc::Global;
 
@@ -23,6 +23,8 @@ pub enum Command {
     /// Documents are inserted in order; where `ordered`, none behind one that is refused.
     Insert { ops: List<Op>, ordered: bool },
     Find { op: Op },
+    Count { op: Op },
+    Distinct { op: Op },
 }
 
 impl Command {
@@ -79,8 +81,41 @@ fn find(alloc: Global, message: &Message) -> Result<Command, CommandRefused>
 {
     let space = space_of(alloc, message)?;
     let filter = filter_in(alloc, &message.body, "filter")?;
+    let query = Query { filter };
     Ok(Command::Find {
-        op: Op::Find { space, filter },
+        op: Op::Find { space, query },
+    })
+}
+
+fn count(alloc: Global, message: &Message) -> Result<Command, CommandRefused>
+    ensures { Gives result (meaning word.Count message.now) }
+{
+    let space = space_of(alloc, message)?;
+    let filter = filter_in(alloc, &message.body, "query")?;
+    let skip = count_in(&message.body, "skip");
+    let limit = count_in(&message.body, "limit");
+    Ok(Command::Count {
+        op: Op::Count {
+            space,
+            filter,
+            skip,
+            limit,
+        },
+    })
+}
+
+fn distinct(alloc: Global, message: &Message) -> Result<Command, CommandRefused>
+    ensures { Gives result (meaning word.Distinct message.now) }
+{
+    let space = space_of(alloc, message)?;
+    let path = path_in(alloc, &message.body, "key")?;
+    let filter = filter_in(alloc, &message.body, "query")?;
+    Ok(Command::Distinct {
+        op: Op::Distinct {
+            space,
+            path,
+            filter,
+        },
     })
 }
 
@@ -92,5 +127,7 @@ fn meant(alloc: Global, by: Word, message: Message) -> Result<Command, CommandRe
         Word::Ping => Ok(Command::Ping),
         Word::Insert => insert(alloc, message),
         Word::Find => find(alloc, &message),
+        Word::Count => count(alloc, &message),
+        Word::Distinct => distinct(alloc, &message),
     }
 }

@@ -1,23 +1,56 @@
-ghost use Rattle.std.specs.Prelude.{◌≡◌};
+ghost use Rattle.std.specs.Prelude.{◌≡◌, []};
 ghost use Rattle.bson_values.specs.declared.value.Value.TheViews.{out-Value};
 ghost use Rattle.filter_syntax.specs.Reading.{read};
-ghost use Rattle.command_words.specs.Body.{pairs_of};
-ghost use Rattle.command_words.specs.Meaning.{truth_or, filter_in};
+ghost use Rattle.doc_shape.specs.Reading.{path_of};
+ghost use Rattle.command_words.specs.Body.{field_or, pairs_of, text_of, truth_of};
+ghost use Rattle.command_words.specs.Meaning.{filter_in, count_in};
 ghost use Rattle.command_words.specs.Told.{Gives};
 
 use crate::refused::CommandRefused;
-use crate::values::truth_of;
+use crate::values::{text_of, truth_of, whole_of};
 use bson_values::{Document, Value};
+use doc_paths::Path;
+use doc_shape::{ShapeRefused, read_path};
 use filter_syntax::{Filter, FilterRefused};
 use std::alloc::Global;
 
 /// The truth of the field of that name, or what stands for none.
 pub(crate) fn truth_or(none: bool, fields: &Document, name: &str) -> bool
-    ensures { result ≡ truth_or none fields.now name.now }
+    ensures { result ≡ field_or none truth_of fields.now name.now }
 {
     match fields.get(name) {
         Some(value) => truth_of(value),
         None => none,
+    }
+}
+
+/// The whole number in the field of that name, without its sign; 0 stands for none.
+pub(crate) fn count_in(fields: &Document, name: &str) -> u64
+    ensures { result ≡ count_in fields.now name.now }
+{
+    match fields.get(name) {
+        Some(value) => whole_of(value).unsigned_abs(),
+        None => 0,
+    }
+}
+
+fn read_key(alloc: Global, text: &str) -> Result<Path, CommandRefused>
+    ensures { Gives result (path_of text.now) }
+{
+    match read_path(alloc, text) {
+        Ok(path) => Ok(path),
+        Err(ShapeRefused::Refused(kind)) => Err(CommandRefused::Refused(kind)),
+        Err(ShapeRefused::NoMemory) => Err(CommandRefused::NoMemory),
+    }
+}
+
+/// The path that the string in the field of that name spells.
+pub(crate) fn path_in(alloc: Global, fields: &Document, name: &str) -> Result<Path, CommandRefused>
+    ensures { Gives result (path_of (field_or [] text_of fields.now name.now)) }
+{
+    match fields.get(name) {
+        Some(value) => read_key(alloc, text_of(value)),
+        None => read_key(alloc, ""),
     }
 }
 

@@ -50,10 +50,12 @@ macro_rules! commands {
     };
 }
 
-static COMMANDS: [Name; 3] = commands! {
+static COMMANDS: [Name; 5] = commands! {
     "ping" => Ping,
     "insert" => Insert,
     "find" => Find,
+    "count" => Count,
+    "distinct" => Distinct,
 };
 
 static FREE: Table = Table {
@@ -65,6 +67,11 @@ static FREE: Table = Table {
 static INSERT: Table = table! { Text { must "documents": Documents, may "ordered": Truth } };
 
 static FIND: Table = table! { Text { may "filter": Document } };
+
+static COUNT: Table =
+    table! { Text { may "query": Document, may "skip": Natural, may "limit": Whole } };
+
+static DISTINCT: Table = table! { Text { must "key": Text, may "query": Document } };
 
 #[tactic(auto, unfolding(crate::specs::Tables::commands))]
 fn commands() -> &'static [Name]
@@ -81,6 +88,8 @@ fn table_of(word: Word) -> &'static Table
         Word::Ping => &FREE,
         Word::Insert => &INSERT,
         Word::Find => &FIND,
+        Word::Count => &COUNT,
+        Word::Distinct => &DISTINCT,
     }
 }
 

@@ -6,6 +6,10 @@ pub(crate) enum Takes {
     Document,
     /// A bool or a whole number.
     Truth,
+    /// A whole number.
+    Whole,
+    /// A whole number that is not negative.
+    Natural,
     /// An array or a sequence of 1 to 1,000 documents, which are not looked into.
     Documents,
     /// There is no such field.

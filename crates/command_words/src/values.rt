@@ -1,7 +1,7 @@
 ghost use Rattle.std.specs.Prelude.{◌≡◌, length};
 ghost use Rattle.std.specs.List.{list_all};
 ghost use Rattle.bson_values.specs.declared.value.Value.TheViews.{out-Value};
-ghost use Rattle.command_words.specs.Body.{is_document, is_bool, is_whole, text_of, whole_of, truth_of, values_in};
+ghost use Rattle.command_words.specs.Body.{is_document, is_whole, text_of, whole_of, truth_of, values_in};
 ghost use Rattle.command_words.specs.Refusal.{has_type, may_be_items, in_range};
 
 use crate::takes::Takes;
@@ -11,12 +11,6 @@ fn is_document(value: &Value) -> bool
     ensures { result ≡ is_document (out-Value value.now) }
 {
     matches!(value, Value::Doc(_))
-}
-
-fn is_bool(value: &Value) -> bool
-    ensures { result ≡ is_bool (out-Value value.now) }
-{
-    matches!(value, Value::Bool(_))
 }
 
 fn is_whole(value: &Value) -> bool
@@ -38,7 +32,11 @@ pub(crate) fn has_type(takes: Takes, value: &Value) -> bool
     match takes {
         Takes::Text => matches!(value, Value::Str(_)),
         Takes::Document => is_document(value),
-        Takes::Truth => is_bool(value) || is_whole(value),
+        Takes::Truth => match value {
+            Value::Bool(_) => true,
+            _ => is_whole(value),
+        },
+        Takes::Whole | Takes::Natural => is_whole(value),
         Takes::Documents => match value {
             Value::Arr(items) => all_documents(items.as_slice()),
             _ => false,
@@ -70,6 +68,7 @@ pub(crate) fn in_range(takes: Takes, value: &Value) -> bool
 {
     match takes {
         Takes::Documents => may_be_items(count_of(value)),
+        Takes::Natural => 0 <= whole_of(value),
         _ => true,
     }
 }
@@ -85,7 +84,7 @@ pub(crate) fn text_of(value: &Value) -> &str
 }
 
 /// The whole number that the value is.
-fn whole_of(value: &Value) -> i64
+pub(crate) fn whole_of(value: &Value) -> i64
     ensures { result ≡ whole_of (out-Value value.now) }
 {
     match value {

@@ -4,4 +4,6 @@ pub(crate) enum Word {
     Ping,
     Insert,
     Find,
+    Count,
+    Distinct,
 }

@@ -1,7 +1,7 @@
 -- One message, executed.
 use Rattle.std.proofs.Common.{◌≡◌, ℕ, ◌+◌, ◌≤◌, max, Bool, true, false, List, [], length, Option, None, Some}
 use Rattle.std.proofs.Common.{refl, ap, sym, ◌∙◌, subst, arith}
-use Rattle.std.specs.Prelude.{option_map}
+use Rattle.std.specs.Prelude.{MatchOption, option_map}
 use Rattle.history_lock.specs.declared.entry.Who.{Who}
 use Rattle.bson_wire.specs.declared.foreign.Foreign.{Foreign}
 use Rattle.op_msg.specs.declared.message.Message.{Message}
@@ -20,7 +20,7 @@ use Rattle.doc_history.specs.Part.{Views, Served}
 use Rattle.doc_history.proofs.Going.{served_none}
 use Rattle.dispatcher.specs.declared.answers.Answered.{Answered}
 use Rattle.dispatcher.specs.declared.answers.Answered.TheVariants.{Whole, NoMemory}
-use Rattle.dispatcher.specs.Answers.{ops_in, ops_of, Completes, CompletesBy, IsComplete, command_document, document_by, number_after, normal}
+use Rattle.dispatcher.specs.Answers.{ops_in, ops_of, Completes, IsComplete, command_document, document_by, number_after, normal}
 use Rattle.dispatcher.specs.Answering.{Dealt, Gave, Did, DoneBy, Refuses}
 use Rattle.dispatcher.specs.Script.{Executed, IsSound, numbered}
 use Rattle.dispatcher.proofs.Numbered.{append-nil, numbered-none}
@@ -33,7 +33,7 @@ ops-accepted m command none is = rw none (ap ops_in (sym is))
 complete-accepted : (m : Message) (command : Command) (rs : List OpReply) → refusal m ≡ None → command ≡ command_of m
     → Completes command rs → IsComplete m rs
 unfolding IsComplete
-complete-accepted m command rs none is all = subst (λ r. CompletesBy r (command_of m) rs) (sym none) (subst (λ c. Completes c rs) is all)
+complete-accepted m command rs none is all = subst (λ r. MatchOption r (Completes (command_of m) rs) (λ (kind : ℕ). rs ≡ [])) (sym none) (subst (λ c. Completes c rs) is all)
 
 normal-accepted : (k : ℕ) (m : Message) (command : Command) (rs : List OpReply) → refusal m ≡ None → command ≡ command_of m
     → reply (number_after k) m.request (command_document command rs) ≡ normal k m rs
@@ -85,7 +85,9 @@ module _ (s : Tables) (old new : Views) (who who' : Who) (now k : ℕ) (m : Mess
 
 refused-complete : (m : Message) (kind : ℕ) → refusal m ≡ Some kind → IsComplete m []
 unfolding IsComplete
-refused-complete m kind is = subst (λ r. CompletesBy r (command_of m) []) (sym is) refl
+refused-complete m kind is =
+    let none : List OpReply = [] in
+    subst (λ r. MatchOption r (Completes (command_of m) none) (λ (kind : ℕ). none ≡ [])) (sym is) refl
 
 refused-normal : (k kind : ℕ) (m : Message) (code : Option ℕ) → refusal m ≡ Some kind
     → code ≡ option_map (λ (element : Foreign). element.code) m.foreign

@@ -23,10 +23,14 @@ goes-long ordered [] [] goes = refl
 goes-long true (op ∷ ops) (replied.Inserted ∷ rs) goes = let more = goes-long true ops rs goes in grind (arith, more)
 goes-long false (op ∷ ops) (replied.Inserted ∷ rs) goes = let more = goes-long false ops rs goes in grind (arith, more)
 goes-long false (op ∷ ops) (replied.Selected docs ∷ rs) goes = let more = goes-long false ops rs goes in grind (arith, more)
+goes-long false (op ∷ ops) (replied.Counted n ∷ rs) goes = let more = goes-long false ops rs goes in grind (arith, more)
+goes-long false (op ∷ ops) (replied.Values values ∷ rs) goes = let more = goes-long false ops rs goes in grind (arith, more)
 goes-long false (op ∷ ops) (replied.Refused kind ∷ rs) goes = let more = goes-long false ops rs goes in grind (arith, more)
 goes-long false (op ∷ ops) (replied.Fault ∷ rs) goes = let more = goes-long false ops rs goes in grind (arith, more)
 goes-long false (op ∷ ops) (replied.NoMemory ∷ rs) goes = let more = goes-long false ops rs goes in grind (arith, more)
 goes-long true (op ∷ ops) (replied.Selected docs ∷ rs) goes = absurd goes
+goes-long true (op ∷ ops) (replied.Counted n ∷ rs) goes = absurd goes
+goes-long true (op ∷ ops) (replied.Values values ∷ rs) goes = absurd goes
 goes-long true (op ∷ ops) (replied.Refused kind ∷ rs) goes = absurd goes
 goes-long true (op ∷ ops) (replied.Fault ∷ rs) goes = absurd goes
 goes-long true (op ∷ ops) (replied.NoMemory ∷ rs) goes = absurd goes
@@ -41,10 +45,14 @@ goes-one : (ordered : Bool) (op : Op) (one : OpReply) → stays ordered one → 
 goes-one true op replied.Inserted is = tt
 goes-one false op replied.Inserted is = tt
 goes-one false op (replied.Selected docs) is = tt
+goes-one false op (replied.Counted n) is = tt
+goes-one false op (replied.Values values) is = tt
 goes-one false op (replied.Refused kind) is = tt
 goes-one false op replied.Fault is = tt
 goes-one false op replied.NoMemory is = tt
 goes-one true op (replied.Selected docs) is = absurd (cc is)
+goes-one true op (replied.Counted n) is = absurd (cc is)
+goes-one true op (replied.Values values) is = absurd (cc is)
 goes-one true op (replied.Refused kind) is = absurd (cc is)
 goes-one true op replied.Fault is = absurd (cc is)
 goes-one true op replied.NoMemory is = absurd (cc is)
@@ -55,10 +63,14 @@ goes-more ordered [] more [] others goes rest = rest
 goes-more true (op ∷ ops) more (replied.Inserted ∷ rs) others goes rest = goes-more true ops more rs others goes rest
 goes-more false (op ∷ ops) more (replied.Inserted ∷ rs) others goes rest = goes-more false ops more rs others goes rest
 goes-more false (op ∷ ops) more (replied.Selected docs ∷ rs) others goes rest = goes-more false ops more rs others goes rest
+goes-more false (op ∷ ops) more (replied.Counted n ∷ rs) others goes rest = goes-more false ops more rs others goes rest
+goes-more false (op ∷ ops) more (replied.Values values ∷ rs) others goes rest = goes-more false ops more rs others goes rest
 goes-more false (op ∷ ops) more (replied.Refused kind ∷ rs) others goes rest = goes-more false ops more rs others goes rest
 goes-more false (op ∷ ops) more (replied.Fault ∷ rs) others goes rest = goes-more false ops more rs others goes rest
 goes-more false (op ∷ ops) more (replied.NoMemory ∷ rs) others goes rest = goes-more false ops more rs others goes rest
 goes-more true (op ∷ ops) more (replied.Selected docs ∷ rs) others goes rest = absurd goes
+goes-more true (op ∷ ops) more (replied.Counted n ∷ rs) others goes rest = absurd goes
+goes-more true (op ∷ ops) more (replied.Values values ∷ rs) others goes rest = absurd goes
 goes-more true (op ∷ ops) more (replied.Refused kind ∷ rs) others goes rest = absurd goes
 goes-more true (op ∷ ops) more (replied.Fault ∷ rs) others goes rest = absurd goes
 goes-more true (op ∷ ops) more (replied.NoMemory ∷ rs) others goes rest = absurd goes
@@ -72,10 +84,14 @@ goes-stops ordered [] more [] others goes rest = rest
 goes-stops true (op ∷ ops) more (replied.Inserted ∷ rs) others goes rest = goes-stops true ops more rs others goes rest
 goes-stops false (op ∷ ops) more (replied.Inserted ∷ rs) others goes rest = goes-stops false ops more rs others goes rest
 goes-stops false (op ∷ ops) more (replied.Selected docs ∷ rs) others goes rest = goes-stops false ops more rs others goes rest
+goes-stops false (op ∷ ops) more (replied.Counted n ∷ rs) others goes rest = goes-stops false ops more rs others goes rest
+goes-stops false (op ∷ ops) more (replied.Values values ∷ rs) others goes rest = goes-stops false ops more rs others goes rest
 goes-stops false (op ∷ ops) more (replied.Refused kind ∷ rs) others goes rest = goes-stops false ops more rs others goes rest
 goes-stops false (op ∷ ops) more (replied.Fault ∷ rs) others goes rest = goes-stops false ops more rs others goes rest
 goes-stops false (op ∷ ops) more (replied.NoMemory ∷ rs) others goes rest = goes-stops false ops more rs others goes rest
 goes-stops true (op ∷ ops) more (replied.Selected docs ∷ rs) others goes rest = absurd goes
+goes-stops true (op ∷ ops) more (replied.Counted n ∷ rs) others goes rest = absurd goes
+goes-stops true (op ∷ ops) more (replied.Values values ∷ rs) others goes rest = absurd goes
 goes-stops true (op ∷ ops) more (replied.Refused kind ∷ rs) others goes rest = absurd goes
 goes-stops true (op ∷ ops) more (replied.Fault ∷ rs) others goes rest = absurd goes
 goes-stops true (op ∷ ops) more (replied.NoMemory ∷ rs) others goes rest = absurd goes
@@ -87,6 +103,8 @@ stops-one : (ordered : Bool) (op : Op) (more : List Op) (one : OpReply) → orde
     → Stops ordered (op ∷ more) (one ∷ [])
 stops-one true op more replied.Inserted is = absurd (cc is)
 stops-one true op more (replied.Selected docs) is = refl
+stops-one true op more (replied.Counted n) is = refl
+stops-one true op more (replied.Values values) is = refl
 stops-one true op more (replied.Refused kind) is = refl
 stops-one true op more replied.Fault is = refl
 stops-one true op more replied.NoMemory is = refl
@@ -220,10 +238,14 @@ stops-few ordered [] [] stops = omega arith
 stops-few true (op ∷ ops) (replied.Inserted ∷ rs) stops = few-more op ops replied.Inserted rs (stops-few true ops rs stops)
 stops-few false (op ∷ ops) (replied.Inserted ∷ rs) stops = few-more op ops replied.Inserted rs (stops-few false ops rs stops)
 stops-few true (op ∷ ops) (replied.Selected docs ∷ rs) stops = few-one op ops (replied.Selected docs) rs stops
+stops-few true (op ∷ ops) (replied.Counted n ∷ rs) stops = few-one op ops (replied.Counted n) rs stops
+stops-few true (op ∷ ops) (replied.Values values ∷ rs) stops = few-one op ops (replied.Values values) rs stops
 stops-few true (op ∷ ops) (replied.Refused kind ∷ rs) stops = few-one op ops (replied.Refused kind) rs stops
 stops-few true (op ∷ ops) (replied.Fault ∷ rs) stops = few-one op ops replied.Fault rs stops
 stops-few true (op ∷ ops) (replied.NoMemory ∷ rs) stops = few-one op ops replied.NoMemory rs stops
 stops-few false (op ∷ ops) (replied.Selected docs ∷ rs) stops = few-more op ops (replied.Selected docs) rs (stops-few false ops rs stops)
+stops-few false (op ∷ ops) (replied.Counted n ∷ rs) stops = few-more op ops (replied.Counted n) rs (stops-few false ops rs stops)
+stops-few false (op ∷ ops) (replied.Values values ∷ rs) stops = few-more op ops (replied.Values values) rs (stops-few false ops rs stops)
 stops-few false (op ∷ ops) (replied.Refused kind ∷ rs) stops = few-more op ops (replied.Refused kind) rs (stops-few false ops rs stops)
 stops-few false (op ∷ ops) (replied.Fault ∷ rs) stops = few-more op ops replied.Fault rs (stops-few false ops rs stops)
 stops-few false (op ∷ ops) (replied.NoMemory ∷ rs) stops = few-more op ops replied.NoMemory rs (stops-few false ops rs stops)

@@ -4,5 +4,5 @@ pub mod Executing
 mod Passing
 mod Starved
 mod Sending
-mod Finds
+mod Readings
 mod Writes

@@ -20,7 +20,7 @@ use Rattle.table_words.specs.Tables.{Tables}
 use Rattle.doc_history.specs.Part.{Views, Served}
 use Rattle.dispatcher.specs.declared.answers.Answered.{Answered}
 use Rattle.dispatcher.specs.declared.answers.Answered.TheVariants.{Whole, NoMemory}
-use Rattle.dispatcher.specs.Answers.{ops_in, Stops, Completes, end_of, told, command_document, normal}
+use Rattle.dispatcher.specs.Answers.{ops_in, Stops, Completes, IsOne, end_of, told, one_document, command_document, normal}
 use Rattle.doc_model.specs.Step.{Keeps}
 use Rattle.dispatcher.specs.Script.{Executed, IsSound, numbered, numbers, ops_from}
 
@@ -58,6 +58,17 @@ pub record DoneBy (s : Tables) (old new : Views) (who who' : Who) (now : ℕ) (n
   pub few : length replies ≤ 1000
   pub told : Told command number request replies answered
 
+-- the same of one operation that reads
+abbrev pub ToldOne : Op → ℤ → ℤ → List OpReply → Answered → Type 0
+ToldOne op number request replies (Whole bytes) = IsOne replies × (bytes ≡ reply number request (one_document (op ∷ []) replies))
+ToldOne op number request replies NoMemory = (length replies ≤ 1) × Each Keeps replies
+
+pub record DoneOne (s : Tables) (old new : Views) (who who' : Who) (now : ℕ) (number request : ℤ) (op : Op) (replies : List OpReply)
+    (answered : Answered) : Type 0 where
+  pub did : Did s old new who who' now (op ∷ []) replies (max 1 (length replies))
+  pub few : length replies ≤ 1000
+  pub told : ToldOne op number request replies answered
+
 -- the answer to a message that asks for nothing that is done
 abbrev pub Refuses : ℤ → ℤ → Option ℕ → CommandRefused → Answered → Type 0
 Refuses number request foreign (refused.Refused kind) (Whole bytes) = bytes ≡ reply number request (document_of (it.Error kind foreign))
@@ -71,11 +82,11 @@ Tellable space replied.NoMemory (Some reply) = ⊥
 Tellable space answer (Some reply) = reply ≡ told space answer
 Tellable space answer None = ⊥
 
--- the answer to a find in that collection that was replied so
-abbrev pub Finds : ℤ → ℤ → Space → OpReply → Answered → Type 0
-Finds number request space replied.NoMemory (Whole bytes) = ⊥
-Finds number request space answer (Whole bytes) = bytes ≡ reply number request (document_of (told space answer))
-Finds number request space answer NoMemory = Unit {0}
+-- the answer to an operation in that collection that reads and was replied so
+abbrev pub Reads : ℤ → ℤ → Space → OpReply → Answered → Type 0
+Reads number request space replied.NoMemory (Whole bytes) = ⊥
+Reads number request space answer (Whole bytes) = bytes ≡ reply number request (document_of (told space answer))
+Reads number request space answer NoMemory = Unit {0}
 
 -- ---- the items of a write
 

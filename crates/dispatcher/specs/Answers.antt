@@ -1,5 +1,5 @@
 -- What each message is answered whose operations are replied so.
-use Rattle.std.specs.Prelude.{ℕ, ℤ, pos, ◌≡◌, ◌+◌, ◌%◌, ◌^◌, Bool, true, false, if◌then◌else◌, List, [], ◌∷◌, map, Option, None, Some, option_map, is_some}
+use Rattle.std.specs.Prelude.{ℕ, ℤ, pos, ◌≡◌, ◌+◌, ◌%◌, ◌^◌, Bool, true, false, if◌then◌else◌, List, [], ◌∷◌, map, Option, None, Some, option_map, is_some, MatchOption}
 use Rattle.bson_values.specs.declared.space.Space.{Space}
 use Rattle.bson_wire.specs.declared.foreign.Foreign.{Foreign}
 use Rattle.filter_syntax.specs.Meaning.{Doc}
@@ -10,7 +10,7 @@ use Rattle.doc_model.specs.declared.op.OpReply.{OpReply}
 use Rattle.doc_model.specs.declared.op.OpReply.TheVariants as replied
 use Rattle.doc_model.specs.Named.{space_of}
 use Rattle.command_words.specs.declared.command.Command.{Command}
-use Rattle.command_words.specs.declared.command.Command.TheVariants.{Ping, Insert, Find}
+use Rattle.command_words.specs.declared.command.Command.TheVariants.{Ping, Insert, Find, Count, Distinct}
 use Rattle.command_words.specs.Refusal.{refusal}
 use Rattle.command_words.specs.Meaning.{command_of}
 use Rattle.reply_words.specs.declared.ends.ItemEnd.{ItemEnd}
@@ -26,6 +26,8 @@ abbrev pub ops_in : Command → List Op
 ops_in Ping = []
 ops_in (Insert ops ordered) = ops
 ops_in (Find op) = op ∷ []
+ops_in (Count op) = op ∷ []
+ops_in (Distinct op) = op ∷ []
 
 -- the operations of a message; a refused one has none
 unfoldable pub ops_of : Message → List Op
@@ -39,20 +41,20 @@ Stops true (op ∷ ops) (error ∷ replies) = replies ≡ []
 Stops false (op ∷ ops) (error ∷ replies) = Stops false ops replies
 Stops ordered ops replies = ⊥
 
--- the operations of a command that was answered are replied so; a find is not answered for want of memory
-abbrev pub Completes : Command → List OpReply → Type 0
-Completes (Insert ops ordered) replies = Stops ordered ops replies
-Completes (Find op) (replied.NoMemory ∷ []) = ⊥
-Completes (Find op) (one ∷ []) = Unit {0}
-Completes (Find op) replies = ⊥
-Completes Ping replies = replies ≡ []
+-- one operation is replied; one that reads is not answered for want of memory
+abbrev pub IsOne : List OpReply → Type 0
+IsOne (replied.NoMemory ∷ []) = ⊥
+IsOne (one ∷ []) = Unit {0}
+IsOne replies = ⊥
 
-abbrev pub CompletesBy : Option ℕ → Command → List OpReply → Type 0
-CompletesBy (Some kind) command replies = replies ≡ []
-CompletesBy None command replies = Completes command replies
+-- the operations of a command that was answered are replied so
+abbrev pub Completes : Command → List OpReply → Type 0
+Completes Ping replies = replies ≡ []
+Completes (Insert ops ordered) replies = Stops ordered ops replies
+Completes command replies = IsOne replies
 
 unfoldable pub IsComplete : Message → List OpReply → Type 0
-IsComplete m replies = CompletesBy (refusal m) (command_of m) replies
+IsComplete m replies = MatchOption (refusal m) (Completes (command_of m) replies) (λ kind. replies ≡ [])
 
 -- ---- the document that tells them
 
@@ -63,20 +65,21 @@ end_of (replied.Refused kind) = ended.Refused kind
 end_of replied.NoMemory = ended.Refused 24
 end_of reply = ended.Refused 1
 
--- what tells documents that were found; so far that is refused, by kind 29, where they do not go into one batch
-abbrev pub batch : Space → List Doc → Reply
-batch space docs = if fit_a_batch docs then it.Batch space docs else it.Error 29 None
-
--- what tells the reply of an operation in that collection that reads
+-- what tells the reply of an operation in that collection that reads; documents are refused, so far, where they do not go into one batch
 abbrev pub told : Space → OpReply → Reply
-told space (replied.Selected docs) = batch space docs
+told space (replied.Selected docs) = if fit_a_batch docs then it.Batch space docs else it.Error 29 None
+told space (replied.Counted n) = it.Counted n
+told space (replied.Values values) = it.Values values
 told space (replied.Refused kind) = it.Error kind None
 told space reply = it.Error 1 None
 
+abbrev pub one_document : List Op → List OpReply → Doc
+one_document (op ∷ []) (one ∷ []) = document_of (told (space_of op) one)
+one_document ops replies = document_of it.Done
+
 abbrev pub command_document : Command → List OpReply → Doc
 command_document (Insert ops ordered) replies = items_document (map end_of replies)
-command_document (Find op) (one ∷ []) = document_of (told (space_of op) one)
-command_document command replies = document_of it.Done
+command_document command replies = one_document (ops_in command) replies
 
 -- a refused message is answered with its refusal
 abbrev pub document_by : Option ℕ → Option Foreign → Command → List OpReply → Doc

@@ -5,7 +5,7 @@ ghost use Rattle.command_words.specs.declared.command.Command.TheVariants as com
 ghost use Rattle.dispatcher.specs.Answering.{DoneBy, Told};
 
 use crate::answers::Answered;
-use crate::finding::find;
+use crate::reading::read;
 use crate::telling::put;
 use crate::writing::insert;
 use command_words::Command;
@@ -52,6 +52,8 @@ pub(crate) fn done<T: TableDesk>(
         Command::Insert { ops, ordered } => {
             insert(alloc, tables, who, now, number, request, ops, ordered)
         }
-        Command::Find { op } => find(alloc, tables, who, now, number, request, op),
+        Command::Find { op } => read(alloc, tables, who, now, number, request, op),
+        Command::Count { op } => read(alloc, tables, who, now, number, request, op),
+        Command::Distinct { op } => read(alloc, tables, who, now, number, request, op),
     }
 }

@@ -3,7 +3,7 @@
 
 mod answers;
 mod commands;
-mod finding;
+mod reading;
 mod telling;
 mod writing;
 

@@ -1,5 +1,5 @@
 -- The documents in tables.
-use Rattle.std.specs.Prelude.{List, [], ◌∷◌}
+use Rattle.std.specs.Prelude.{List, [], ◌∷◌, map}
 use Rattle.std.specs.Option.{unwrap_or}
 use Rattle.filter_syntax.specs.Meaning.{Doc}
 use Rattle.typed_json.specs.Reading.{row_read}
@@ -18,16 +18,14 @@ docs_in_rows [] = []
 docs_in_rows (row ∷ rows) = doc_of row ∷ docs_in_rows rows
 
 abbrev pub docs_at : List Placed → List Doc
-docs_at [] = []
-docs_at (placed ∷ rows) = doc_of placed.row ∷ docs_at rows
+docs_at = map (λ (placed : Placed). doc_of placed.row)
 
 -- a table as a collection
 abbrev pub collection : Table → Collection
 collection t = record { space = t.space; docs = docs_at t.rows }
 
 abbrev pub collections : List Table → List Collection
-collections [] = []
-collections (t ∷ ts) = collection t ∷ collections ts
+collections = map collection
 
 -- the store whose documents are the rows, read back
 abbrev pub docs : Tables → Store

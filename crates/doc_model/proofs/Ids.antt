@@ -9,9 +9,9 @@ use Rattle.bson_values.specs.Names.{first_of, same_space}
 use Rattle.filter_syntax.specs.Meaning.{Doc}
 use Rattle.bson_order.proofs.Places.{is_same_swaps}
 use Rattle.doc_model.specs.declared.op.Op.{Op}
-use Rattle.doc_model.specs.declared.op.Op.TheVariants.{Insert, Find}
+use Rattle.doc_model.specs.declared.op.Op.TheVariants.{Insert, Find, Count, Distinct}
 use Rattle.doc_model.specs.declared.op.OpReply.{OpReply}
-use Rattle.doc_model.specs.declared.op.OpReply.TheVariants.{Inserted, Selected, Refused, Fault, NoMemory}
+use Rattle.doc_model.specs.declared.op.OpReply.TheVariants.{Inserted, Selected, Counted, Values, Refused, Fault, NoMemory}
 use Rattle.doc_model.specs.Store.{Store, empty_store, docs_of, are_same, same_id, has_id}
 use Rattle.doc_model.specs.Insert.{completed}
 use Rattle.doc_model.specs.Step.{Meant, step, meant, refused_by_words}
@@ -60,7 +60,9 @@ meant-own : (who : Who) (now : ℕ) (op : Op) (s : Store) (reply : OpReply) (t :
 meant-own who now (Insert space doc) s reply t is own =
     ⊎_elim (λ refused. subst IdsAreOwn (sym refused.1) own) (λ landed. landed-own space (completed who now doc) s t landed own)
     (insert-came reply space (completed who now doc) s t (refused_by_words who now (Insert space doc)) is)
-meant-own who now (Find space it) s reply t is own = subst IdsAreOwn (sym (ap (λ (m : Meant). m.store) is)) own
+meant-own who now (Find space query) s reply t is own = subst IdsAreOwn (sym (ap (λ (m : Meant). m.store) is)) own
+meant-own who now (Count space it skip limit) s reply t is own = subst IdsAreOwn (sym (ap (λ (m : Meant). m.store) is)) own
+meant-own who now (Distinct space path it) s reply t is own = subst IdsAreOwn (sym (ap (λ (m : Meant). m.store) is)) own
 
 -- and so does every step
 step-own : (who : Who) (now : ℕ) (op : Op) (s : Store) (reply : OpReply) (t : Store) → step who now op s reply t → IdsAreOwn s
@@ -69,6 +71,8 @@ step-own who now op s NoMemory t is own = subst IdsAreOwn (sym is) own
 step-own who now op s Fault t is own = subst IdsAreOwn (sym is) own
 step-own who now op s Inserted t is own = meant-own who now op s Inserted t is own
 step-own who now op s (Selected docs) t is own = meant-own who now op s (Selected docs) t is own
+step-own who now op s (Counted n) t is own = meant-own who now op s (Counted n) t is own
+step-own who now op s (Values values) t is own = meant-own who now op s (Values values) t is own
 step-own who now op s (Refused kind) t is own = meant-own who now op s (Refused kind) t is own
 
 pub run-own : (ds : List Done) (s t : Store) → run s ds t → IdsAreOwn s → IdsAreOwn t

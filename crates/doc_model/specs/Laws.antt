@@ -4,8 +4,8 @@ use Rattle.history_lock.specs.declared.entry.Who.{Who}
 use Rattle.bson_values.specs.declared.space.Space.{Space}
 use Rattle.bson_values.specs.Names.{same_space}
 use Rattle.filter_syntax.specs.Meaning.{Doc}
-use Rattle.filter_syntax.specs.declared.filter.Filter.{Filter}
 use Rattle.doc_model.specs.declared.op.Op.{Op}
+use Rattle.doc_model.specs.declared.op.Query.{Query}
 use Rattle.doc_model.specs.declared.op.Op.TheVariants.{Insert, Find}
 use Rattle.doc_model.specs.declared.op.OpReply.TheVariants.{Inserted, Selected, Refused}
 use Rattle.doc_model.specs.Store.{Store, empty_store, docs_of, has_id}
@@ -19,10 +19,10 @@ RefusalsChangeNothing = (who : Who) (now : ℕ) (op : Op) (s t : Store) (kind : 
 
 -- after an insert a find selects of what was there before and then of the completed document
 abbrev pub InsertedIsFound : Type 0
-InsertedIsFound = (who other : Who) (now then' : ℕ) (space : Space) (doc : Doc) (it : Filter) (s t : Store)
+InsertedIsFound = (who other : Who) (now then' : ℕ) (space : Space) (doc : Doc) (query : Query) (s t : Store)
     → step who now (Insert space doc) s Inserted t
-    → meant other then' (Find space it) t
-    ≡ record { reply = Selected (matching it (docs_of space s ++ completed who now doc ∷ [])); store = t }
+    → meant other then' (Find space query) t
+    ≡ record { reply = Selected (matching query.filter (docs_of space s ++ completed who now doc ∷ [])); store = t }
 
 -- an insert leaves the documents of every other space
 abbrev pub OthersAreLeft : Type 0

@@ -3,11 +3,13 @@ use Rattle.std.specs.Prelude.{◌≡◌, true}
 use Rattle.bson_values.specs.declared.space.Space.{Space}
 use Rattle.naming.specs.Names.{is_valid}
 use Rattle.doc_model.specs.declared.op.Op.{Op}
-use Rattle.doc_model.specs.declared.op.Op.TheVariants.{Insert, Find}
+use Rattle.doc_model.specs.declared.op.Op.TheVariants.{Insert, Find, Count, Distinct}
 
 abbrev pub space_of : Op → Space
 space_of (Insert space doc) = space
-space_of (Find space it) = space
+space_of (Find space query) = space
+space_of (Count space it skip limit) = space
+space_of (Distinct space path it) = space
 
 -- its names are such as a database and a collection may have
 abbrev pub IsNamed : Op → Type 0
@@ -15,5 +17,5 @@ IsNamed op = is_valid (space_of op) ≡ true
 
 -- the operation reads alone
 abbrev pub IsRead : Op → Type 0
-IsRead (Find space it) = Unit {0}
 IsRead (Insert space doc) = ⊥
+IsRead op = Unit {0}

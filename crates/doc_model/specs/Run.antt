@@ -1,5 +1,5 @@
 -- Operations one after another.
-use Rattle.std.specs.Prelude.{ℕ, ◌≡◌, List, [], ◌∷◌}
+use Rattle.std.specs.Prelude.{ℕ, ◌≡◌, List, [], ◌∷◌, map}
 use Rattle.history_lock.specs.declared.entry.Who.{Who}
 use Rattle.doc_model.specs.declared.op.Op.{Op}
 use Rattle.doc_model.specs.declared.op.OpReply.{OpReply}
@@ -15,8 +15,7 @@ pub record Done : Type 0 where
 
 -- whose they are
 abbrev pub whos : List Done → List Who
-whos [] = []
-whos (d ∷ ds) = d.who ∷ whos ds
+whos = map (λ (d : Done). d.who)
 
 -- each is a step from the store that those before it left
 abbrev pub run : Store → List Done → Store → Type 0

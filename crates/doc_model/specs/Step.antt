@@ -1,31 +1,28 @@
 -- One operation on the store.
-use Rattle.std.specs.Prelude.{ℕ, ◌≡◌, ◌+◌, ◌-◌, ◌^◌, Bool, if◌then◌else◌, nat_le, nat_lt, List, [], ◌∷◌, ◌++◌, length, Option, None, Some}
+use Rattle.std.specs.Prelude.{ℕ, ◌≡◌, ◌+◌, ◌-◌, ◌^◌, ◌==◌, Bool, if◌then◌else◌, nat_le, nat_lt, List, [], ◌∷◌, ◌++◌, length, take, drop, Option, None, Some}
 use Rattle.std.specs.List.{filter}
 use Rattle.history_lock.specs.declared.entry.Who.{Who}
 use Rattle.bson_values.specs.declared.space.Space.{Space}
+use Rattle.bson_values.specs.declared.value.Value.{Value}
+use Rattle.bson_values.specs.declared.value.Value.TheVariants.{Arr}
+use Rattle.bson_values.specs.Measures.{value_size}
+use Rattle.distinct_values.specs.Distinct.{distinct}
 use Rattle.filter_syntax.specs.Meaning.{Doc, holds}
 use Rattle.filter_syntax.specs.declared.filter.Filter.{Filter}
 use Rattle.doc_model.specs.declared.op.Op.{Op}
-use Rattle.doc_model.specs.declared.op.Op.TheVariants.{Insert, Find}
+use Rattle.doc_model.specs.declared.op.Op.TheVariants.{Insert, Find, Count, Distinct}
 use Rattle.doc_model.specs.declared.op.OpReply.{OpReply}
-use Rattle.doc_model.specs.declared.op.OpReply.TheVariants.{Inserted, Selected, Refused, Fault, NoMemory}
+use Rattle.doc_model.specs.declared.op.OpReply.TheVariants.{Inserted, Selected, Counted, Values, Refused, Fault, NoMemory}
 use Rattle.doc_model.specs.Insert.{id_of, completed, not_stored}
 use Rattle.doc_model.specs.Store.{Store, Collection, collection_of, docs_of, has_id, with_docs}
 
--- how many collections there may be
-abbrev pub MOST_COLLECTIONS : ℕ
-MOST_COLLECTIONS = 10000
-
--- the last number that can be given
-abbrev pub LAST_NUMBER : ℕ
-LAST_NUMBER = 2 ^ 63 - 1
-
--- so many numbers, the first of which is given next, would go past the last
+-- so many numbers, the first of which is given next, would go past 2^63 - 1, the last that can be given
 abbrev pub are_spent : ℕ → Store → Bool
-are_spent count s = nat_lt LAST_NUMBER (s.next + count - 1)
+are_spent count s = nat_lt (2 ^ 63 - 1) (s.next + count - 1)
 
+-- there are 10,000 collections, the most that there may be
 abbrev pub is_full : Store → Bool
-is_full s = nat_le MOST_COLLECTIONS (length s.collections)
+is_full s = nat_le 10000 (length s.collections)
 
 -- a reply, and the store after it
 pub record Meant : Type 0 where
@@ -64,17 +61,27 @@ inserted space doc s None = refused s ((is_full s, 34) ∷ (are_spent 2 s, 33) �
 abbrev pub matching : Filter → List Doc → List Doc
 matching it docs = filter (holds it) docs
 
+-- those past the first `skip`, and of them at most `limit`, where that is not 0
+abbrev pub limited : ℕ → ℕ → List Doc → List Doc
+limited skip limit docs = if limit == 0 then drop skip docs else take limit (drop skip docs)
+
+-- values that are asked for: as an array of more than 16,777,216 bytes they are refused, by kind 30
+abbrev pub valued : List Value → OpReply
+valued values = if nat_le (value_size (Arr values)) 16777216 then Values values else Refused 30
+
 -- why the words of an operation are refused, at every store
 abbrev pub refused_by_words : Who → ℕ → Op → Option ℕ
 refused_by_words who now (Insert space doc) = not_stored (id_of who now doc) (completed who now doc)
-refused_by_words who now (Find space it) = None
+refused_by_words who now op = None
 
 -- what an operation is replied, and the store after it, where memory and keeper last
 abbrev pub meant : Who → ℕ → Op → Store → Meant
 meant who now (Insert space doc) s =
     by_kind (refused_by_words who now (Insert space doc)) s
     (inserted space (completed who now doc) s (collection_of space s.collections))
-meant who now (Find space it) s = same (Selected (matching it (docs_of space s))) s
+meant who now (Find space query) s = same (Selected (matching query.filter (docs_of space s))) s
+meant who now (Count space it skip limit) s = same (Counted (length (limited skip limit (matching it (docs_of space s))))) s
+meant who now (Distinct space path it) s = same (valued (distinct path (matching it (docs_of space s)))) s
 
 -- one step: that, or want of memory or a fault, which change nothing
 abbrev pub step : Who → ℕ → Op → Store → OpReply → Store → Type 0

@@ -1,5 +1,6 @@
 -- A store of documents.
-use Rattle.std.specs.Prelude.{ℕ, Bool, false, if◌then◌else◌, codes, List, [], ◌∷◌, Option, None, Some}
+use Rattle.std.specs.Prelude.{ℕ, Bool, false, if◌then◌else◌, codes, List, [], ◌∷◌, Option, None, Some, option_map}
+use Rattle.std.specs.Option.{unwrap_or}
 use Rattle.std.specs.List.{list_any}
 use Rattle.bson_values.specs.declared.space.Space.{Space}
 use Rattle.bson_values.specs.declared.value.Value.{Value}
@@ -41,8 +42,7 @@ collection_of space (c ∷ cs) = if same_space space c.space then Some c else co
 
 -- the documents of a collection, none where it is absent
 abbrev pub docs_in : Option Collection → List Doc
-docs_in None = []
-docs_in (Some c) = c.docs
+docs_in found = unwrap_or (option_map (λ (c : Collection). c.docs) found) []
 
 -- the documents of that space
 abbrev pub docs_of : Space → Store → List Doc

@@ -8,4 +8,4 @@ pub use laws::{
     a_refusal_changes_nothing, an_insert_leaves_other_spaces, ids_stay_distinct, runs_join,
     what_was_inserted_is_found,
 };
-pub use op::{Op, OpReply};
+pub use op::{Op, OpReply, Query};

@@ -15,6 +15,7 @@ mod walking;
 
 pub use order::Order;
 pub use projecting::project;
+pub use reading::read_path;
 pub use refused::ShapeRefused;
 pub use shape::Shape;
 pub use sorting::sort_stably;

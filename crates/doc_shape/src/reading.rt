@@ -27,8 +27,9 @@ fn any_dollar(parts: &[Text]) -> bool
     parts.iter().any(|part| has_dollar(part))
 }
 
-/// The path that a name spells.
-pub(crate) fn read_path(alloc: Global, name: &str) -> Result<Path, ShapeRefused>
+/// The path that a name spells in a sort, in a projection or as the key of a `distinct`. A bad path is kind 9, and a part that begins
+/// with `$` kind 29, which goes second.
+pub fn read_path(alloc: Global, name: &str) -> Result<Path, ShapeRefused>
     ensures { Gives result (path_of name.now) }
 {
     match Path::read(alloc, name) {

@@ -2,7 +2,7 @@
 use Rattle.std.proofs.Common.{◌≡◌, ◌⊎◌, inl, inr, ℕ, refl}
 use Rattle.std.specs.Prelude.{Option, Some}
 use Rattle.doc_model.specs.declared.op.OpReply.{OpReply}
-use Rattle.doc_model.specs.declared.op.OpReply.TheVariants.{Inserted, Selected, Refused, Fault, NoMemory}
+use Rattle.doc_model.specs.declared.op.OpReply.TheVariants.{Inserted, Selected, Counted, Values, Refused, Fault, NoMemory}
 use Rattle.doc_store.specs.Replies.{Declines}
 
 pub declined : (words : Option ℕ) (reply : OpReply) → Declines words reply
@@ -11,4 +11,6 @@ declined words NoMemory is = inl refl
 declined words (Refused kind) is = inr (kind, is, refl)
 declined words Inserted is = absurd is
 declined words (Selected docs) is = absurd is
+declined words (Counted n) is = absurd is
+declined words (Values values) is = absurd is
 declined words Fault is = absurd is

@@ -1,11 +1,14 @@
--- The call of a find is a step of the documents.
-use Rattle.std.proofs.Common.{◌≡◌, ℕ, Bool, true, false, List, [], ◌∷◌, Option, None, Some, map, All}
-use Rattle.std.proofs.Common.{refl, ap, sym, ◌∙◌, subst}
+-- The call of an operation that reads is a step of the documents.
+use Rattle.std.proofs.Common.{◌≡◌, ◌⊎◌, inl, inr, ⊎_elim, ℕ, Bool, true, false, List, [], ◌∷◌, Option, None, Some, map, All}
+use Rattle.std.proofs.Common.{refl, ap, sym, ◌∙◌, subst, nat_le}
 use Rattle.std.proofs.lemmas.List.Elements.{All-nil, All-cons}
 use Rattle.history_lock.specs.declared.entry.Who.{Who}
 use Rattle.bson_values.specs.declared.space.Space.{Space}
 use Rattle.bson_values.specs.declared.value.Value.{Value, out-Value}
 use Rattle.bson_values.specs.declared.value.Value.TheOpen.{Value-F}
+use Rattle.bson_values.specs.declared.value.Value.TheVariants.{Arr}
+use Rattle.bson_values.specs.Measures.{value_size}
+use Rattle.distinct_values.specs.Distinct.{distinct}
 use Rattle.filter_syntax.specs.Candidates.{is_array}
 use Rattle.filter_syntax.specs.Meaning.{Doc}
 use Rattle.filter_syntax.specs.declared.filter.Filter.{Filter}
@@ -23,17 +26,19 @@ use Rattle.table_words.specs.Tables.{Table, Tables, named}
 use Rattle.table_words.specs.Step.{selects, tables_after, is_kept, tstep}
 use Rattle.table_words.specs.Sound.{IsSound, Sound, SoundRows}
 use Rattle.table_words.proofs.Finds.{numbered-named, sound-found}
+use Rattle.doc_model.specs.declared.op.Op.{Op}
 use Rattle.doc_model.specs.declared.op.Op.TheVariants as op
 use Rattle.doc_model.specs.declared.op.OpReply.{OpReply}
 use Rattle.doc_model.specs.declared.op.OpReply.TheVariants as told
 use Rattle.doc_model.specs.Run.{Done}
-use Rattle.doc_model.specs.Step.{matching}
-use Rattle.doc_model.specs.Store.{collection_of}
-use Rattle.doc_history.specs.Docs.{doc_of, docs_in_rows, docs_at, collections}
+use Rattle.doc_model.specs.Step.{matching, meant, step, valued}
+use Rattle.doc_model.specs.Store.{Store, collection_of, docs_in, docs_of}
+use Rattle.doc_history.specs.Docs.{doc_of, docs, docs_in_rows, docs_at, collections}
 use Rattle.doc_store.specs.Ended.{Comes}
-use Rattle.doc_store.specs.Replies.{selection_of, Reads, AreComing}
+use Rattle.doc_store.specs.Replies.{Answers, AreComing, Reads, op_of, rows_of, shown}
 use Rattle.doc_store.specs.Rows.{AreSound}
-use Rattle.doc_store.specs.declared.operation.Selection.TheVariants as selection
+use Rattle.doc_store.specs.declared.reading.Aim.{Aim}
+use Rattle.doc_store.specs.declared.reading.Aim.TheVariants as aim
 use Rattle.doc_store.proofs.Collections.{collection_at, collection-found}
 use Rattle.doc_store.proofs.Keys.{doc_sound}
 use Rattle.doc_store.proofs.Steps.{by-reply, no-fault}
@@ -117,55 +122,89 @@ unkept s by None e = cc
 unkept s by (Some t) e = cc
 
 pub rows-come : (s : Tables) (space : Space) (by : Cond) (r : TableReply) (before after : ℕ) → Sound s
-    → tstep s (call.SelectNamed space by) r before after → AreComing (selection_of r)
+    → tstep s (call.SelectNamed space by) r before after → AreComing (rows_of r)
 rows-come s space by r before after sound t =
-    by-reply (λ q u. AreComing (selection_of q)) s (call.SelectNamed space by) r before after t.replied tt
+    by-reply (λ q u. AreComing (rows_of q)) s (call.SelectNamed space by) r before after t.replied tt
     (λ kept. absurd (unkept s by (named space s.live) kept)) (of (named space s.live) refl)
   where
-    of : (o : Option Table) → named space s.live ≡ o → AreComing (selection_of (selects by reply.Absent s o).reply)
+    of : (o : Option Table) → named space s.live ≡ o → AreComing (rows_of (selects by reply.Absent s o).reply)
     of None at = tt
     of (Some t) at = selected-sound s.next by t.rows (live-rows s space t sound at)
 
--- ---- a find
+-- ---- a read
 
-module _ (law : Law) (who : Who) (now : ℕ) (space : Space) (it : Filter) where
+-- values are told, or refused, as they are meant
+valued-step : (who : Who) (now : ℕ) (by : Op) (s : Store) (values : List Value)
+    → record { reply = valued values; store = s } ≡ meant who now by s → step who now by s (valued values) s
+valued-step who now by s values is = cases (nat_le (value_size (Arr values)) 16777216) refl
+  where
+    cases : (b : Bool) → nat_le (value_size (Arr values)) 16777216 ≡ b → step who now by s (valued values) s
+    cases true e = let as_values = rw e at is in rw e as_values
+    cases false e = let as_refused = rw e at is in rw e as_refused
+
+never-fault : (it : Aim) (docs : List Doc) → shown it docs ≡ told.Fault → ⊥
+never-fault aim.Documents docs e = cc e
+never-fault (aim.Number skip limit) docs e = cc e
+never-fault (aim.Values path) docs e = cases (nat_le (value_size (Arr (distinct path docs))) 16777216) refl
+  where
+    cases : (b : Bool) → nat_le (value_size (Arr (distinct path docs))) 16777216 ≡ b → ⊥
+    cases true is = let fault = rw is at e in cc fault
+    cases false is = let fault = rw is at e in cc fault
+
+either-way : (answer wanted : OpReply) → Answers answer wanted → (answer ≡ told.NoMemory) ⊎ (answer ≡ wanted)
+either-way told.NoMemory wanted is = inl refl
+either-way told.Inserted wanted is = inr is
+either-way (told.Selected docs) wanted is = inr is
+either-way (told.Counted n) wanted is = inr is
+either-way (told.Values values) wanted is = inr is
+either-way (told.Refused kind) wanted is = inr is
+either-way told.Fault wanted is = inr is
+
+module _ (law : Law) (who : Who) (now : ℕ) (it : Aim) (space : Space) (by : Filter) where
   abbrev done : OpReply → Done
-  done r = record { who = who; now = now; op = op.Find space it; reply = r }
+  done r = record { who = who; now = now; op = op_of it space by; reply = r }
 
-  meant-find : (s : Tables) (o : Option Table) → named space s.live ≡ o
-      → collection_of space (collections s.live) ≡ collection_at o
-  meant-find s o at = collection-found space s.live ∙ ap collection_at at
+  shown-step : (one : Aim) (s : Store) (found : List Doc) → found ≡ matching by (docs_of space s)
+      → step who now (op_of one space by) s (shown one found) s
+  shown-step aim.Documents s found is = rw is refl
+  shown-step (aim.Number skip limit) s found is = rw is refl
+  shown-step (aim.Values path) s found is = valued-step who now (op.Distinct space path by) s (distinct path found) (rw is refl)
+
+  collection-at : (s : Tables) (o : Option Table) → named space s.live ≡ o → collection_of space (collections s.live) ≡ collection_at o
+  collection-at s o at = collection-found space s.live ∙ ap collection_at at
 
   wants : (s : Tables) (q : TableReply) → (q ≡ reply.Fault → ⊥) → Comes (done told.NoMemory) s s q
   wants s q none = (refl, no-fault (λ e. cc) none)
 
-  find-meant : (s : Tables) (o : Option Table) → Sound s → named space s.live ≡ o → (answer : OpReply)
-      → Reads it (selection_of (selects (cond it) reply.Absent s o).reply) answer
-      → Comes (done answer) s (selects (cond it) reply.Absent s o).tables (selects (cond it) reply.Absent s o).reply
-  find-meant s None sound at (told.Selected found) is =
-      (rw (meant-find s None at, is) refl, no-fault (λ e. cc) (λ e. cc))
-  find-meant s (Some t) sound at (told.Selected found) is =
-      let all = is ∙ found-selected law it s.next t.rows (live-rows s space t sound at) in
-      (rw (meant-find s (Some t) at, all) refl, no-fault (λ e. cc) (λ e. cc))
-  find-meant s None sound at told.NoMemory is = wants s reply.Absent (λ e. cc)
-  find-meant s (Some t) sound at told.NoMemory is = wants s (reply.Rows t.number t.stamp (selected (cond it) t.rows)) (λ e. cc)
-  find-meant s None sound at told.Inserted is = absurd is
-  find-meant s (Some t) sound at told.Inserted is = absurd is
-  find-meant s None sound at (told.Refused kind) is = absurd is
-  find-meant s (Some t) sound at (told.Refused kind) is = absurd is
-  find-meant s None sound at told.Fault is = absurd is
-  find-meant s (Some t) sound at told.Fault is = absurd is
+  told-none : (s : Tables) (q : TableReply) (answer : OpReply) → (q ≡ reply.Fault → ⊥) → answer ≡ told.NoMemory → Comes (done answer) s s q
+  told-none s q answer none e = subst (λ (a : OpReply). Comes (done a) s s q) (sym e) (wants s q none)
 
-  starved : (s : Tables) (answer : OpReply) → Reads it selection.NoMemory answer → Comes (done answer) s s reply.NoMemory
-  starved s told.NoMemory is = wants s reply.NoMemory (λ e. cc)
-  starved s (told.Selected found) is = absurd is
-  starved s told.Inserted is = absurd is
-  starved s (told.Refused kind) is = absurd is
-  starved s told.Fault is = absurd is
+  told-shown : (s : Tables) (q : TableReply) (found : List Doc) (answer : OpReply) → (q ≡ reply.Fault → ⊥)
+      → found ≡ matching by (docs_of space (docs s)) → answer ≡ shown it found → Comes (done answer) s s q
+  told-shown s q found answer none is e =
+      subst (λ (a : OpReply). Comes (done a) s s q) (sym e) (shown-step it (docs s) found is, no-fault (never-fault it found) none)
 
-  pub find-comes : (s : Tables) (r : TableReply) (before after : ℕ) (answer : OpReply) → Sound s
-      → tstep s (call.SelectNamed space (cond it)) r before after → Reads it (selection_of r) answer
-      → Comes (done answer) s (tables_after s (call.SelectNamed space (cond it)) r) r
-  find-comes s r before after answer sound t =
-      by-reply (λ q u. Reads it (selection_of q) answer → Comes (done answer) s u q) s (call.SelectNamed space (cond it)) r before after t.replied
-      (starved s answer) (λ kept. absurd (unkept s (cond it) (named space s.live) kept)) (find-meant s (named space s.live) sound refl answer)
+  tells : (s : Tables) (q : TableReply) (found : List Doc) (answer : OpReply) → (q ≡ reply.Fault → ⊥)
+      → found ≡ matching by (docs_of space (docs s)) → Answers answer (shown it found) → Comes (done answer) s s q
+  tells s q found answer none is given =
+      ⊎_elim (told-none s q answer none) (told-shown s q found answer none is) (either-way answer (shown it found) given)
+
+  read-meant : (s : Tables) (o : Option Table) → Sound s → named space s.live ≡ o → (answer : OpReply)
+      → Reads it by (rows_of (selects (cond by) reply.Absent s o).reply) answer
+      → Comes (done answer) s (selects (cond by) reply.Absent s o).tables (selects (cond by) reply.Absent s o).reply
+  read-meant s None sound at answer given =
+      tells s reply.Absent [] answer (λ e. cc) (ap (λ o. matching by (docs_in o)) (sym (collection-at s None at))) given
+  read-meant s (Some t) sound at answer given =
+      tells s (reply.Rows t.number t.stamp (selected (cond by) t.rows)) (matching by (docs_in_rows (selected (cond by) t.rows))) answer (λ e. cc)
+      (found-selected law by s.next t.rows (live-rows s space t sound at)
+      ∙ ap (λ o. matching by (docs_in o)) (sym (collection-at s (Some t) at))) given
+
+  starved : (s : Tables) (answer : OpReply) → answer ≡ told.NoMemory → Comes (done answer) s s reply.NoMemory
+  starved s answer is = told-none s reply.NoMemory answer (λ e. cc) is
+
+  pub read-comes : (s : Tables) (r : TableReply) (before after : ℕ) (answer : OpReply) → Sound s
+      → tstep s (call.SelectNamed space (cond by)) r before after → Reads it by (rows_of r) answer
+      → Comes (done answer) s (tables_after s (call.SelectNamed space (cond by)) r) r
+  read-comes s r before after answer sound t =
+      by-reply (λ q u. Reads it by (rows_of q) answer → Comes (done answer) s u q) s (call.SelectNamed space (cond by)) r before after t.replied
+      (starved s answer) (λ kept. absurd (unkept s (cond by) (named space s.live) kept)) (read-meant s (named space s.live) sound refl answer)

@@ -1,14 +1,10 @@
 -- A key stands among rows exactly where its `_id` does among their documents.
 use Rattle.std.proofs.Common.{◌≡◌, ◌<◌, ◌^◌, ℕ, Bool, true, false, ◌&&◌, ◌||◌, List, [], ◌∷◌, length, nat_le}
-use Rattle.std.proofs.Common.{refl, ap, sym, ◌∙◌}
+use Rattle.std.proofs.Common.{refl, ap, sym, ◌∙◌, subst}
 use Rattle.std.specs.Prelude.{codes, Option, Some, Ok, is_ok}
 use Rattle.std.specs.Option.{unwrap_or}
-use Rattle.std.specs.Ordering.{is_eq}
 use Rattle.std.specs.Str.{bytes_eq}
-use Rattle.std.specs.declared.cmp.Ordering.{Ordering}
-use Rattle.std.specs.declared.cmp.Ordering.TheVariants.{Less, Equal, Greater}
-use Rattle.std.proofs.lemmas.Slice.Eq.{bytes_eq-Decides}
-use Rattle.std_words.proofs.Tests.{never-both, and-both}
+use Rattle.std_words.proofs.Tests.{and-both}
 use Rattle.bson_spelling.specs.Spelling.{key}
 use Rattle.bson_values.specs.Allowed.{is_sound, can_be_stored}
 use Rattle.bson_values.specs.Measures.{size, depth}
@@ -17,10 +13,7 @@ use Rattle.bson_values.specs.Storable.{MOST_BYTES, MOST_LEVELS, storable}
 use Rattle.bson_values.specs.declared.value.Value.{Value}
 use Rattle.bson_values.specs.declared.value.Value.TheVariants as value
 use Rattle.bson_values.proofs.Soundness.{storable_where}
-use Rattle.bson_order.specs.Order.{compared, is_same}
 use Rattle.bson_order.specs.Plain.{IsPlain}
-use Rattle.bson_order.proofs.EqualKeys.{told}
-use Rattle.bson_order.proofs.SameKeys.{same_key}
 use Rattle.filter_syntax.specs.Meaning.{Doc}
 use Rattle.typed_json.specs.Plain.{each}
 use Rattle.typed_json.specs.Reading.{row_read}
@@ -33,6 +26,7 @@ use Rattle.table_rows.specs.Rows.{has_key}
 use Rattle.table_words.specs.Sound.{IsSound, SoundRows}
 use Rattle.doc_model.specs.Store.{are_same, same_id, has_id}
 use Rattle.doc_history.specs.Docs.{doc_of, docs_at}
+use Rattle.distinct_values.proofs.Keys.{key_same}
 use Rattle.doc_store.proofs.Plain.{plain_where}
 
 -- ---- the `_id` of a stored document is plain
@@ -62,27 +56,6 @@ plain_id doc id stored typed found =
     (found_holds is_sound (codes "_id") id doc (and-both _ (hold (each is_sound doc)) (sym (sound_Doc doc) ∙ stored_sound doc stored)).1 found)
     (found_holds is_typed (codes "_id") id doc (sym (typed_Doc doc) ∙ typed) found)
 
--- ---- keys of plain values
-
-equal : (o : Ordering) → is_eq o ≡ true → o ≡ Equal
-equal Less e = absurd (cc e)
-equal Equal e = refl
-equal Greater e = absurd (cc e)
-
-pub key_same : (one other : Value) → IsPlain one → IsPlain other → length (key one) < 2 ^ 63 → bytes_eq (key one) (key other) ≡ is_same one other
-unfolding is_same
-key_same one other plain like short = cases (bytes_eq (key one) (key other)) refl (is_eq (compared one other)) refl
-  where
-    cases : (b : Bool) → bytes_eq (key one) (key other) ≡ b → (c : Bool) → is_eq (compared one other) ≡ c → b ≡ c
-    cases true e true f = refl
-    cases false e false f = refl
-    cases true e false f =
-        let same = told one other plain like short ((bytes_eq-Decides (key one) (key other)).0 e) in
-        never-both (is_eq (compared one other)) (ap is_eq same) f
-    cases false e true f =
-        let keys = same_key one other (equal (compared one other) f) in
-        never-both (bytes_eq (key one) (key other)) ((bytes_eq-Decides (key one) (key other)).1 keys) e
-
 -- ---- rows and their documents
 
 -- the document of a sound row
@@ -90,6 +63,11 @@ pub doc_sound : (row : Row) → (sound : IsSound row) → doc_of row ≡ sound.d
 doc_sound row sound =
     let read : row_read row.json ≡ Some sound.doc = ap row_read (sym sound.json.row_is) ∙ row_again sound.doc sound.json.typed sound.json.stored in
     ap (λ (found : Option Doc). unwrap_or found []) read
+
+pub plain_doc : (row : Row) (doc : Doc) → IsSound row → doc ≡ doc_of row → IsPlain (value.Doc doc)
+plain_doc row doc sound is =
+    subst (λ (it : Doc). IsPlain (value.Doc it)) (sym (is ∙ doc_sound row sound))
+    (plain_where (value.Doc sound.doc) (stored_sound sound.doc sound.json.stored) sound.json.typed)
 
 -- the one row
 pub row_id : (doc : Doc) (id : Value) (row : Row) → IsPlain id → first_of (codes "_id") doc ≡ Some id → length (key id) < 2 ^ 63 → IsSound row

@@ -9,3 +9,5 @@ pub mod Steps
 pub mod Found
 pub mod Performed
 pub mod Declined
+pub mod Carrying
+pub mod Sizes

@@ -3,6 +3,7 @@
 
 mod completing;
 mod operation;
+mod reading;
 mod rows;
 
 pub use operation::perform;

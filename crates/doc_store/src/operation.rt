@@ -4,18 +4,17 @@ ghost use Rattle.doc_history.specs.Part.{Served};
 ghost use Rattle.doc_model.specs.declared.op.Op.TheVariants as op;
 ghost use Rattle.doc_model.specs.Named.{IsNamed, IsRead};
 ghost use Rattle.doc_model.specs.Step.{Keeps};
-ghost use Rattle.doc_store.specs.Replies.{insert_reply, selection_of};
+ghost use Rattle.doc_store.specs.Carried.{Carried};
+ghost use Rattle.doc_store.specs.Replies.{Fits, insert_reply, op_asked};
 
 use crate::completing::stored;
-use crate::rows::found;
-use bson_values::{Document, List, NoMemory, Space};
+use crate::reading::{Aim, read};
+use bson_values::{Document, Space};
 use case_tables::{DUPLICATE_KEY, NUMBERS_SPENT, TOO_MANY_COLLECTIONS};
 use doc_model::{Op, OpReply};
 use filter_syntax::Filter;
 use history_lock::Who;
-use pushdown::{cond_of, filtering_selected_rows_is_filtering_all};
 use std::alloc::Global;
-use table_rows::Row;
 use table_words::{TableCall, TableDesk, TableReply};
 
 /// What an insert is replied, by the reply of its one call.
@@ -29,24 +28,6 @@ fn insert_reply(reply: TableReply) -> OpReply
         TableReply::Spent => OpReply::Refused(NUMBERS_SPENT),
         TableReply::Fault => OpReply::Fault,
         _ => OpReply::NoMemory,
-    }
-}
-
-/// What a Select was replied.
-#[derive(Drop)]
-enum Selection {
-    Rows(List<Row>),
-    Absent,
-    NoMemory,
-}
-
-fn selection_of(reply: TableReply) -> Selection
-    ensures { result ≡ selection_of reply }
-{
-    match reply {
-        TableReply::Rows { rows, .. } => Selection::Rows(rows),
-        TableReply::Absent => Selection::Absent,
-        _ => Selection::NoMemory,
     }
 }
 
@@ -66,6 +47,8 @@ fn insert<D: TableDesk>(
     ensures turns { D.turns desk.new ≡ D.turns desk.old }
     ensures served { Served (D.opening desk.old) (D.at desk.old) (D.at desk.new)
         (record { who = who; now = now; op = op.Insert space doc; reply = result } ∷ []) }
+    ensures carries { Carried (op.Insert space doc) (D.at desk.old) (D.at desk.new) }
+    ensures fits { Fits result }
     ensures few { length (D.at desk.new).own ≤ length (D.at desk.old).own + 1 }
 {
     let row = match stored(alloc, who, now, doc) {
@@ -75,43 +58,56 @@ fn insert<D: TableDesk>(
     insert_reply(desk.call(who, TableCall::InsertNamed { space, row }))
 }
 
-/// Finds the documents of a collection.
-fn find<D: TableDesk>(
-    alloc: Global,
-    desk: &mut D,
-    who: Who,
-    now: u64,
-    space: Space,
-    filter: &Filter,
-) -> OpReply
-    ensures held { D.held desk.new ≡ D.held desk.old }
-    ensures opening { D.opening desk.new ≡ D.opening desk.old }
-    ensures first { D.first desk.new ≡ D.first desk.old }
-    ensures turns { D.turns desk.new ≡ D.turns desk.old }
-    ensures served { Served (D.opening desk.old) (D.at desk.old) (D.at desk.new)
-        (record { who = who; now = now; op = op.Find space filter.now; reply = result } ∷ []) }
-    ensures keeps { Keeps result }
-    ensures few { length (D.at desk.new).own ≤ length (D.at desk.old).own + 1 }
+/// What an operation does at a desk.
+#[derive(Drop)]
+enum Asked {
+    Insert {
+        space: Space,
+        doc: Document,
+    },
+    Read {
+        space: Space,
+        filter: Filter,
+        aim: Aim,
+    },
+}
+
+fn parted(op: Op) -> Asked
+    ensures { op ≡ op_asked result }
 {
-    filtering_selected_rows_is_filtering_all();
-    let Ok(cond) = cond_of(alloc, filter) else {
-        return OpReply::NoMemory;
-    };
-    let reply = desk.call(who, TableCall::SelectNamed { space, cond });
-    match selection_of(reply) {
-        Selection::Rows(rows) => match found(alloc, filter, rows.as_slice()) {
-            Ok(docs) => OpReply::Selected(docs),
-            Err(NoMemory) => OpReply::NoMemory,
+    match op {
+        Op::Insert { space, doc } => Asked::Insert { space, doc },
+        Op::Find { space, query } => Asked::Read {
+            space,
+            filter: query.filter,
+            aim: Aim::Documents,
         },
-        Selection::Absent => OpReply::Selected(List::new(alloc)),
-        Selection::NoMemory => OpReply::NoMemory,
+        Op::Count {
+            space,
+            filter,
+            skip,
+            limit,
+        } => Asked::Read {
+            space,
+            filter,
+            aim: Aim::Number { skip, limit },
+        },
+        Op::Distinct {
+            space,
+            path,
+            filter,
+        } => Asked::Read {
+            space,
+            filter,
+            aim: Aim::Values(path),
+        },
     }
 }
 
 /// Does one operation, the `who.op`th of its connection, at that moment, in milliseconds since 1970-01-01 00:00 UTC.
 ///
 /// What it did to the documents and replied is one step of the one-thread store, which stands at its last call. It makes at most one
-/// call, and begins no turn.
+/// call, which carries the condition of its filter where it selects, and begins no turn.
 pub fn perform<D: TableDesk>(alloc: Global, desk: &mut D, who: Who, now: u64, op: Op) -> OpReply
     requires named { IsNamed op }
     requires free { D.held desk.old ≡ false }
@@ -121,11 +117,18 @@ pub fn perform<D: TableDesk>(alloc: Global, desk: &mut D, who: Who, now: u64, op
     ensures turns { D.turns desk.new ≡ D.turns desk.old }
     ensures served { Served (D.opening desk.old) (D.at desk.old) (D.at desk.new)
         (record { who = who; now = now; op = op; reply = result } ∷ []) }
+    ensures carries { Carried op (D.at desk.old) (D.at desk.new) }
+    ensures fits { Fits result }
     ensures keeps { IsRead op → Keeps result }
     ensures few { length (D.at desk.new).own ≤ length (D.at desk.old).own + 1 }
 {
-    match op {
-        Op::Insert { space, doc } => insert(alloc, desk, who, now, space, doc),
-        Op::Find { space, filter } => find(alloc, desk, who, now, space, &filter),
+    match parted(op) {
+        Asked::Insert { space, doc } => insert(alloc, desk, who, now, space, doc),
+        Asked::Read { space, filter, aim } => {
+            let reply = read(alloc, desk, who, now, space, &filter, &aim);
+            drop(filter);
+            drop(aim);
+            reply
+        }
     }
 }

@@ -5,8 +5,10 @@ mod body;
 mod listed;
 mod row;
 mod selecting;
+mod shared;
 mod table;
 
 pub use listed::{Listed, Placed};
 pub use row::Row;
+pub use shared::SharedJson;
 pub use table::Table;

@@ -4,6 +4,7 @@ ghost use Rattle.serde_json.specs.Read.{max_depth};
 ghost use Rattle.serde_json.specs.Written.{compact_text};
 ghost use Rattle.jsonb_contain.specs.Texts.{data_of, fits, read_json};
 
+use crate::shared::SharedJson;
 use bson_values::{Bytes, NoMemory, Text};
 use jsonb_contain::{Json, text};
 use std::alloc::Global;
@@ -12,7 +13,7 @@ use std::alloc::Global;
 #[derive(Drop)]
 pub struct Row {
     pub key: Bytes,
-    pub json: Json,
+    pub json: SharedJson,
     pub text: Text,
 }
 
@@ -26,14 +27,16 @@ impl Row {
             → read_json row.text ≡ Some json) }
     {
         let text = text(alloc, &json)?;
+        let json = SharedJson::new(alloc, json)?;
         Ok(Row { key, json, text })
     }
 
+    /// A copy that shares the JSON and the text.
     pub fn copy(&self, alloc: Global) -> Result<Row, NoMemory>
         ensures { IfOk result (λ copied. copied ≡ self.now) }
     {
         let key = self.key.copy(alloc)?;
-        let json = self.json.copy(alloc)?;
+        let json = self.json.copy()?;
         let text = self.text.copy(alloc)?;
         Ok(Row { key, json, text })
     }

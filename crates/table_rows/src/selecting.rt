@@ -32,7 +32,7 @@ fn first_key(conds: &[Cond]) -> Option<&Bytes>
     None
 }
 
-/// Adds a copy of the row, if it meets the condition.
+/// Adds the row, if it meets the condition.
 fn add_if_met(
     alloc: Global,
     cond: &Cond,
@@ -41,14 +41,14 @@ fn add_if_met(
 ) -> Result<(), NoMemory>
     ensures { OnOk result (chosen.new ≡ chosen.old ++ selected cond.now (placed (kept.now ∷ []))) }
 {
-    if meets(cond, &kept.key, &kept.value.json) {
+    if meets(cond, &kept.key, kept.value.json.get()) {
         let row = row_of(alloc, kept)?;
         chosen.add(row)?;
     }
     Ok(())
 }
 
-/// Copies of all rows that meet the condition.
+/// All rows that meet the condition, whose JSON and text are shared.
 pub(crate) fn select_all(
     alloc: Global,
     cond: &Cond,

@@ -3,4 +3,5 @@
 mod bounds;
 mod commands;
 mod keepers;
+mod queries;
 mod streams;

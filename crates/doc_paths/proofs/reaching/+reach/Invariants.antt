@@ -19,4 +19,4 @@ decreases-reach_documents l = 4 * length l.rest.now + 2
 abbrev pub invariant-reach_documents-loop-item : goal.invariant-reach_documents-loop-item
 invariant-reach_documents-loop-item l =
     let go = λ (item : Value). in_element l.part (reached l.rest) (out-Value item) in
-    l.all ++ flat_map go (drop l.item-index l.items) ≡ l.initial.all ++ flat_map go l.items
+    l.walk.all ++ flat_map go (drop l.item-index l.items) ≡ l.initial.walk.all ++ flat_map go l.items

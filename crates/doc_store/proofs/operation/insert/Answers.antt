@@ -1,4 +1,5 @@
 use Rattle.doc_history.proofs.Going.{served_unlogged}
+use Rattle.doc_store.proofs.Carrying.{carried-call, carried-none}
 use Rattle.doc_store.proofs.Declined.{declined}
 use Rattle.doc_store.proofs.Performed.{performed}
 use Rattle.doc_store.proofs.Steps.{insert-comes}
@@ -12,3 +13,9 @@ returns-clause-served g c =
     let called = rw c.call.ensures.opening at c.call.ensures.called in
     rw c.insert_reply.ensures (performed _ called (λ t before after sound step.
     insert-comes c.args.who c.args.now _ c.args.doc _ t _ before after sound c.in-Ok.ensures.ok.1 c.in-Ok.ensures.ok.0 step))
+
+pub returns-in-Err-clause-carries : goal.returns-in-Err-clause-carries
+returns-in-Err-clause-carries g c = carried-none _ _
+
+pub returns-clause-carries : goal.returns-clause-carries
+returns-clause-carries g c = carried-call _ c.call.ensures.called tt

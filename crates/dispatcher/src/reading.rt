@@ -2,11 +2,12 @@ ghost use Rattle.std.specs.Prelude.{◌≡◌, ◌<◌, ◌^◌, false, true, If
 ghost use Rattle.naming.specs.Names.{is_valid};
 ghost use Rattle.doc_model.specs.declared.op.OpReply.{OpReply as Replied};
 ghost use Rattle.doc_model.specs.Named.{IsNamed, IsRead, space_of};
-ghost use Rattle.command_words.specs.declared.command.Command.TheVariants as command;
+ghost use Rattle.doc_store.specs.Replies.{Fits};
 ghost use Rattle.reply_words.specs.Small.{IsSmall};
 ghost use Rattle.reply_words.specs.declared.replies.Reply.TheVariants as reply;
-ghost use Rattle.dispatcher.specs.Answers.{batch};
-ghost use Rattle.dispatcher.specs.Answering.{DoneBy, Finds, Tellable};
+ghost use Rattle.doc_model.specs.declared.op.OpReply.TheVariants as replied;
+ghost use Rattle.dispatcher.specs.Answers.{told};
+ghost use Rattle.dispatcher.specs.Answering.{DoneOne, Reads, Tellable};
 
 use crate::answers::Answered;
 use crate::telling::put;
@@ -26,6 +27,8 @@ fn space_of(alloc: Global, op: &Op) -> Result<Space, NoMemory>
     match op {
         Op::Insert { space, .. } => space.copy(alloc),
         Op::Find { space, .. } => space.copy(alloc),
+        Op::Count { space, .. } => space.copy(alloc),
+        Op::Distinct { space, .. } => space.copy(alloc),
     }
 }
 
@@ -43,7 +46,7 @@ fn error(kind: Kind) -> Reply
 #[tactic(auto, using(crate::proofs::Sending::is_short))]
 fn batch(space: Space, docs: List<Document>) -> Reply
     requires { is_valid space ≡ true }
-    ensures told { result ≡ batch space docs }
+    ensures told { result ≡ told space (replied.Selected docs) }
     ensures small { IsSmall result }
 {
     if fit_a_batch(docs.as_slice()) {
@@ -53,24 +56,28 @@ fn batch(space: Space, docs: List<Document>) -> Reply
     }
 }
 
-/// What tells the reply of a find in that collection; nothing, where memory was wanting.
+/// What tells the reply of an operation in that collection that reads; nothing, where memory was wanting.
 fn found(space: Space, reply: OpReply) -> Option<Reply>
-    requires { is_valid space ≡ true }
+    requires valid { is_valid space ≡ true }
+    requires fits { Fits reply }
     ensures told { Tellable space reply result }
     ensures small { IfSome result IsSmall }
 {
     match reply {
         OpReply::Selected(docs) => Some(batch(space, docs)),
+        OpReply::Counted(n) => Some(Reply::Counted { n }),
+        OpReply::Values(values) => Some(Reply::Values { values }),
         OpReply::Refused(kind) => Some(error(kind)),
         OpReply::NoMemory => None,
         _ => Some(error(INTERNAL_ERROR)),
     }
 }
 
-/// The answer to a find that was replied so.
+/// The answer to an operation that reads and was replied so.
 fn told(alloc: Global, number: i32, request: i32, space: Space, reply: OpReply) -> Answered
-    requires { is_valid space ≡ true }
-    ensures { Finds number request space reply result }
+    requires valid { is_valid space ≡ true }
+    requires fits { Fits reply }
+    ensures { Reads number request space reply result }
 {
     let Some(told) = found(space, reply) else {
         return Answered::NoMemory;
@@ -81,8 +88,8 @@ fn told(alloc: Global, number: i32, request: i32, space: Space, reply: OpReply) 
     }
 }
 
-/// Finds documents, and answers with them.
-pub(crate) fn find<T: TableDesk>(
+/// Reads documents, and answers with what was asked of them.
+pub(crate) fn read<T: TableDesk>(
     alloc: Global,
     tables: &mut T,
     who: &mut Who,
@@ -98,8 +105,8 @@ pub(crate) fn find<T: TableDesk>(
     ensures free { T.held tables.new ≡ false }
     ensures opening { T.opening tables.new ≡ T.opening tables.old }
     ensures first { T.first tables.new ≡ T.first tables.old }
-    ensures done { (replies : Seq Replied) × DoneBy (T.opening tables.old) (T.at tables.old) (T.at tables.new) who.old who.new now
-        number request (command.Find op) replies result }
+    ensures done { (replies : Seq Replied) × DoneOne (T.opening tables.old) (T.at tables.old) (T.at tables.new) who.old who.new now
+        number request op replies result }
 {
     let first = *who;
     who.op += 1;

@@ -1,0 +1,133 @@
+use super::messages::{Words, message};
+use bson_values::{Document, Space, Value};
+use command_words::Command;
+use doc_model::Op;
+use std::alloc::Global;
+use std::test::Fail;
+
+/// What a message means whose command is on the collection `t.c`.
+#[derive(Clone, Copy, Debug, PartialEq, Eq)]
+enum Asked {
+    Ping,
+    /// An insert of a document with this `_id` alone.
+    Insert(i64),
+    Find,
+    Count { skip: u64, limit: u64 },
+    /// The distinct values at a path of so many parts.
+    Distinct(usize),
+    Other,
+}
+
+fn id_of(doc: &Document) -> Asked {
+    match (doc.len(), doc.pair(0)) {
+        (1, Some(("_id", Value::Int(id)))) => Asked::Insert(i64::from(*id)),
+        (1, Some(("_id", Value::Long(id)))) => Asked::Insert(*id),
+        _ => Asked::Other,
+    }
+}
+
+fn is_on(space: &Space) -> bool {
+    space.db.as_str() == "t" && space.coll.as_str() == "c"
+}
+
+fn done(op: &Op) -> Asked {
+    match op {
+        Op::Insert { space, doc } if is_on(space) => id_of(doc),
+        Op::Find { space, .. } if is_on(space) => Asked::Find,
+        Op::Count {
+            space,
+            skip,
+            limit,
+            ..
+        } if is_on(space) => Asked::Count {
+            skip: *skip,
+            limit: *limit,
+        },
+        Op::Distinct { space, path, .. } if is_on(space) => Asked::Distinct(path.parts().len()),
+        _ => Asked::Other,
+    }
+}
+
+fn command_asks(command: &Command) -> Asked {
+    match command {
+        Command::Ping => Asked::Ping,
+        Command::Insert { ops, .. } => match ops.as_slice() {
+            [op] => done(op),
+            _ => Asked::Other,
+        },
+        Command::Find { op } => done(op),
+        Command::Count { op } => done(op),
+        Command::Distinct { op } => done(op),
+    }
+}
+
+/// None for a message that is refused, and where memory is wanting.
+fn meant(alloc: Global, words: Words) -> Option<Asked> {
+    let message = message(alloc, words)?;
+    let command = Command::read(alloc, message).ok()?;
+    Some(command_asks(&command))
+}
+
+/// Messages, and what they mean.
+static ACCEPTED: [(Words, Asked); 12] = [
+    (
+        (r#"{insert: "c", documents: [{_id: 1}], $db: "t"}"#, "{}"),
+        Asked::Insert(1),
+    ),
+    (
+        (r#"{insert: "c", $db: "t"}"#, "{documents: [{_id: 1}]}"),
+        Asked::Insert(1),
+    ),
+    (
+        (
+            r#"{insert: "c", documents: [{_id: 5000000000L}], $db: "t"}"#,
+            "{}",
+        ),
+        Asked::Insert(5_000_000_000),
+    ),
+    ((r#"{find: "c", $db: "t"}"#, "{}"), Asked::Find),
+    ((r#"{find: "c", filter: {}, $db: "t"}"#, "{}"), Asked::Find),
+    ((r#"{ping: 1, $db: "admin"}"#, "{}"), Asked::Ping),
+    (
+        (r#"{ping: 1, $db: "admin"}"#, "{x: [{_id: 1}]}"),
+        Asked::Ping,
+    ),
+    (
+        (r#"{count: "c", $db: "t"}"#, "{}"),
+        Asked::Count { skip: 0, limit: 0 },
+    ),
+    (
+        (r#"{count: "c", skip: 2L, limit: -3, $db: "t"}"#, "{}"),
+        Asked::Count { skip: 2, limit: 3 },
+    ),
+    (
+        (
+            r#"{count: "c", limit: -9223372036854775808L, $db: "t"}"#,
+            "{}",
+        ),
+        Asked::Count {
+            skip: 0,
+            limit: 9_223_372_036_854_775_808,
+        },
+    ),
+    (
+        (r#"{distinct: "c", key: "a", $db: "t"}"#, "{}"),
+        Asked::Distinct(1),
+    ),
+    (
+        (
+            r#"{distinct: "c", key: "a.0.b", query: {}, $db: "t"}"#,
+            "{}",
+        ),
+        Asked::Distinct(3),
+    ),
+];
+
+#[test]
+fn each_message_has_its_meaning(rt: HostRuntime) -> Result<(), Fail> {
+    for ((body, beside), wanted) in &ACCEPTED {
+        let told = meant(rt.alloc(), (body, beside));
+        assert!(rt; told == Some(*wanted), "{body}");
+    }
+    Ok(())
+}

@@ -1,0 +1,72 @@
+-- An operation that reads, and what it is answered.
+use Rattle.std.proofs.Common.{ℕ, ℤ, ◌+◌, List, [], ◌∷◌, refl, arith}
+use Rattle.history_lock.specs.declared.entry.Who.{Who}
+use Rattle.table_words.specs.Tables.{Tables}
+use Rattle.command_words.specs.declared.command.Command.TheVariants as command
+use Rattle.doc_model.specs.declared.op.Op.{Op}
+use Rattle.doc_model.specs.declared.op.OpReply.{OpReply}
+use Rattle.doc_model.specs.declared.op.OpReply.TheVariants as replied
+use Rattle.doc_model.specs.Named.{space_of}
+use Rattle.doc_model.specs.Step.{Keeps}
+use Rattle.doc_history.specs.Part.{Views, Served}
+use Rattle.doc_history.proofs.Going.{served_none}
+use Rattle.dispatcher.specs.declared.answers.Answered.{Answered}
+use Rattle.dispatcher.specs.declared.answers.Answered.TheVariants.{Whole, NoMemory}
+use Rattle.dispatcher.specs.Answering.{DoneBy, DoneOne, Reads, Told, ToldOne}
+
+-- nothing was asked of the tables
+pub read-starved : (s : Tables) (v : Views) (who : Who) (now : ℕ) (number request : ℤ) (op : Op)
+    → DoneOne s v v who (record who { op = who.op + 1 }) now number request op [] NoMemory
+read-starved s v who now number request op = record {
+  did = record { next = refl; served = served_none s v };
+  few = omega arith;
+  told = (omega arith, tt);
+}
+
+read-told : (number request : ℤ) (op : Op) (reply : OpReply) (a : Answered) → Keeps reply → Reads number request (space_of op) reply a
+    → ToldOne op number request (reply ∷ []) a
+read-told number request op replied.NoMemory (Whole bytes) keeps is = absurd is
+read-told number request op (replied.Selected docs) (Whole bytes) keeps is = (tt, is)
+read-told number request op (replied.Counted n) (Whole bytes) keeps is = (tt, is)
+read-told number request op (replied.Values values) (Whole bytes) keeps is = (tt, is)
+read-told number request op (replied.Refused kind) (Whole bytes) keeps is = (tt, is)
+read-told number request op replied.Fault (Whole bytes) keeps is = (tt, is)
+read-told number request op replied.Inserted (Whole bytes) keeps is = absurd keeps
+read-told number request op reply NoMemory keeps is = (omega arith, (keeps, tt))
+
+-- one operation was served
+pub read-done : (s : Tables) (old new : Views) (who : Who) (now : ℕ) (number request : ℤ) (op : Op) (reply : OpReply) (a : Answered)
+    → Served s old new (record { who = who; now = now; op = op; reply = reply } ∷ []) → Keeps reply
+    → Reads number request (space_of op) reply a
+    → DoneOne s old new who (record who { op = who.op + 1 }) now number request op (reply ∷ []) a
+read-done s old new who now number request op reply a served keeps is = record {
+  did = record { next = refl; served = served };
+  few = omega arith;
+  told = read-told number request op reply a keeps is;
+}
+
+-- ---- the commands that are one operation
+
+module _ (number request : ℤ) (op : Op) (replies : List OpReply) where
+  told-find : (a : Answered) → ToldOne op number request replies a → Told (command.Find op) number request replies a
+  told-find (Whole bytes) is = is
+  told-find NoMemory is = is
+
+  told-count : (a : Answered) → ToldOne op number request replies a → Told (command.Count op) number request replies a
+  told-count (Whole bytes) is = is
+  told-count NoMemory is = is
+
+  told-distinct : (a : Answered) → ToldOne op number request replies a → Told (command.Distinct op) number request replies a
+  told-distinct (Whole bytes) is = is
+  told-distinct NoMemory is = is
+
+module _ {s : Tables} {old new : Views} {who who' : Who} {now : ℕ} {number request : ℤ} {op : Op} {replies : List OpReply} {a : Answered}
+    (by : DoneOne s old new who who' now number request op replies a) where
+  pub done-find : DoneBy s old new who who' now number request (command.Find op) replies a
+  done-find = record { did = by.did; few = by.few; told = told-find number request op replies a by.told }
+
+  pub done-count : DoneBy s old new who who' now number request (command.Count op) replies a
+  done-count = record { did = by.did; few = by.few; told = told-count number request op replies a by.told }
+
+  pub done-distinct : DoneBy s old new who who' now number request (command.Distinct op) replies a
+  done-distinct = record { did = by.did; few = by.few; told = told-distinct number request op replies a by.told }

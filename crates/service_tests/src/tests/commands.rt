@@ -1,5 +1,0 @@
-//! What a message asks for, or why it is refused.
-
-mod read;
-mod rows;
-mod samples;

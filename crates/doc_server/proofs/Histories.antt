@@ -33,13 +33,12 @@ closes : (s : Tables) (n : ℕ) (old new : Scene) (first last past : Views) (lef
     → Pipes s n past.seen left m old new why commands
 closes s n old new first last past left m why commands none is all lawful leaves counts talks =
     let ds : List Done = ops_from 0 0 0 talks.1 in
-    let served : Served s nothing past ds = subst (λ v. Served s v past ds) none (subst (λ v. Served s first v ds) (sym is) talks.5) in
+    let served : Served s nothing past ds = subst (λ v. Served s v past ds) none (subst (λ v. Served s first v ds) (sym is) talks.4) in
     let tells : told s past.seen ds = told-alone s past ds all served in (
       talks.0,
       talks.1,
       talks.2,
       talks.3,
-      talks.4,
       record { lawful = lawful; tells = tells; tale = law_tells s past.seen ds tells; leaves = leaves; counts = counts },
     )
 

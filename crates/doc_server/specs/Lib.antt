@@ -1,4 +1,5 @@
 pub mod Talk
+pub mod Ending
 pub mod Steps
 pub mod Program
 pub mod Pipe

@@ -1,11 +1,10 @@
 -- What the program says and how it ends.
-use Rattle.std.specs.Prelude.{ℕ, ◌≡◌, ◌≢◌, ◌⊎◌, Bool, false, List, [], ◌∷◌, ◌++◌, length, codes, Option, None, Some, IfSome}
+use Rattle.std.specs.Prelude.{ℕ, ◌≡◌, ◌≢◌, ◌⊎◌, Bool, false, List, [], ◌∷◌, ◌++◌, codes, Option, None, Some, IfSome}
 use Rattle.std.specs.Str.{bytes_eq}
 use Rattle.doc_server.specs.declared.why.Why.{Why}
 use Rattle.doc_server.specs.declared.why.Why.TheVariants.{Closed, Truncated, BadFrame, ReadFault, WriteFault, Long, NoMemory}
 use Rattle.op_msg.specs.declared.message.Message.{Message}
 use Rattle.op_msg.specs.Stream.{frames}
-use Rattle.op_msg.specs.Reading.{short, fault}
 use Rattle.outside.specs.Causes.{Rose}
 use Rattle.outside.specs.declared.kept.KeptTable.{KeptTable}
 use Rattle.history_lock.specs.Places.{Each}
@@ -18,7 +17,7 @@ use Rattle.doc_model.specs.Run.{Done}
 use Rattle.doc_history.specs.Told.{Tcall, told}
 use Rattle.doc_history.specs.Laws.{Story}
 use Rattle.dispatcher.specs.Script.{Executed, messages, ops_from}
-use Rattle.doc_server.specs.Talk.{Scene, Talk, Ends}
+use Rattle.doc_server.specs.Talk.{Scene, Talk}
 
 -- the one word `pipe`
 abbrev pub is_pipe : List (List ℕ) → Bool
@@ -54,25 +53,13 @@ Unserved faults kept before now None (Some bad) status = ⊥
 abbrev pub fresh : Option (List ℕ) → Scene
 fresh input = record { took = Some []; left = input; wrote = Some []; moments = Some [] }
 
--- What the end says of a whole input, whose messages and rest these facts frame: the end is as that rest shows. Nothing, where the
--- connection was cut off: a call failed, memory ran out, or more came than is read of one connection.
-abbrev pub Shows : Why → Type 0 → List ℕ → Type 0
-Shows Closed Framed rest = Framed × (rest ≡ [])
-Shows (Truncated size) Framed rest = Framed × (size ≡ length rest) × (rest ≢ []) × short rest
-Shows (BadFrame kind place) Framed rest = Framed × (fault rest ≡ Some (kind, place))
-Shows why Framed rest = Unit {0}
-
--- of an input that is told, with what is left of it, the messages are all that it has
+-- Of an input that is told, with what is left of it, the messages are all that it has. Nothing, where the connection was cut off: a call
+-- failed, memory ran out, or more came than is read of one connection.
 abbrev pub IsWhole : Why → Option (List ℕ) → Option (List ℕ) → List Message → List ℕ → Type 0
-IsWhole why (Some input) (Some left) ms rest = Shows why (frames input ms (rest ++ left)) (rest ++ left)
+IsWhole Closed (Some input) (Some left) ms rest = frames input ms (rest ++ left)
+IsWhole (Truncated size) (Some input) (Some left) ms rest = frames input ms (rest ++ left)
+IsWhole (BadFrame kind place) (Some input) (Some left) ms rest = frames input ms (rest ++ left)
 IsWhole why input left ms rest = Unit {0}
-
--- A connection from its first call to its end: what came of the input is the messages of the script and a rest, which shows the end; their
--- answers were written; and, unless it was cut off, they are all the messages of the whole input.
-abbrev pub Spoken : Option (List ℕ) → Scene → Why → ℕ → List Executed → Type 0
-Spoken input new why commands script =
-    (all : List ℕ) × (rest : List ℕ)
-    × Talk (fresh input) new why commands all script rest × Ends why all rest × IsWhole why input new.left (messages script) rest
 
 -- The whole history of tables that began as s, with that count of faults: each entry is a step of the tables; it tells these operations with
 -- their replies and no others; its story is a run of the one-thread store; and these are the tables and the count that it leaves.
@@ -83,10 +70,12 @@ pub record IsHistory (s : Tables) (faults : ℕ) (h : List Tcall) (left : Tables
   pub leaves : left ≡ replay tables_after s h
   pub counts : faults' ≡ count_after faults h
 
--- The connection 0 of worker 0 has a script, and the whole history tells the operations of that script.
+-- The connection 0 of worker 0 has a script: what came of the input is its messages and a rest; unless the connection was cut off, they are
+-- all the messages of the whole input; their answers were written; and the whole history tells the operations of the script.
 abbrev pub Headline : Tables → ℕ → List Tcall → Tables → ℕ → Option (List ℕ) → Scene → Why → ℕ → Type 0
 Headline s faults h left faults' input new why commands =
-    (script : List Executed) × Spoken input new why commands script × IsHistory s faults h left faults' (ops_from 0 0 0 script)
+    (all : List ℕ) × (script : List Executed) × (rest : List ℕ) × Talk (fresh input) new why commands all script rest
+    × IsWhole why input new.left (messages script) rest × IsHistory s faults h left faults' (ops_from 0 0 0 script)
 
 -- the statuses of a connection no call of whose console can fail: its input is answered, cut, bad or too long, or memory ran out
 abbrev pub IsSureStatus : ℕ → Type 0

@@ -1,5 +1,6 @@
 ghost use Rattle.std.specs.Prelude.{◌≡◌, is_some, IfSome};
-ghost use Rattle.doc_server.specs.Talk.{AtEnd, Faults, scene};
+ghost use Rattle.doc_server.specs.Talk.{Faults, scene};
+ghost use Rattle.doc_server.specs.Ending.{Ending};
 ghost use Rattle.doc_server.specs.Pipe.{Pipes};
 
 use crate::serve::{Ended, serve_link};
@@ -24,7 +25,9 @@ pub fn serve_pipe<L: Link + Drop, K: Keeper + Drop>(
 ) -> Piped<L, K>
     ensures both { is_some result.tables ≡ is_some result.ended }
     ensures names { IfSome result.ended (λ e. (e.seat ≡ 0) × (e.number ≡ 0) × (e.lost ≡ 0)) }
-    ensures end { IfSome result.ended (λ e. AtEnd e.why (L.left e.link)) }
+    ensures ends { IfSome result.ended (λ e. Ending
+        (scene (L.taken link) (L.left link) (L.written link) (L.moments link))
+        (scene (L.taken e.link) (L.left e.link) (L.written e.link) (L.moments e.link)) e.why) }
     ensures faults { IfSome result.ended (λ e. Faults e.why (L.read_faults link) (L.read_faults e.link)
         (L.write_faults link) (L.write_faults e.link)) }
     ensures pipes { IfSome result.ended (λ e. IfSome result.tables (λ c. Pipes

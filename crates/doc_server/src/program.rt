@@ -2,8 +2,9 @@ ghost use Rattle.std.specs.Prelude.{◌≡◌, ◌≢◌, ◌↔◌, true, false
 ghost use Rattle.table_store.specs.Loading.{IsLoaded};
 ghost use Rattle.table_words.specs.Tables.{Tables as TablesState};
 ghost use Rattle.doc_server.specs.Talk.{Faults, scene};
+ghost use Rattle.doc_server.specs.Ending.{Ending};
 ghost use Rattle.doc_server.specs.Pipe.{Told};
-ghost use Rattle.doc_server.specs.Program.{is_pipe, status_of, Headline, Unloaded, Unserved};
+ghost use Rattle.doc_server.specs.Program.{fresh, is_pipe, status_of, Headline, Unloaded, Unserved};
 
 use crate::pipe::serve_pipe;
 use crate::serve::Ended;
@@ -182,6 +183,11 @@ where
     ensures faults { IfSome result.console (λ e. Faults e.why
         0 (W.Console.read_faults e.link) 0 (W.Console.write_faults e.link)) }
     ensures keeps { IfSome result.console (λ e. W.keep_faults world.new ≡ W.keep_faults world.old) }
+
+    // It ended as what stands behind the messages shows, and what is left of the input.
+    ensures ends { IfSome result.console (λ e. Ending (fresh (W.input world.old))
+        (scene (W.Console.taken e.link) (W.Console.left e.link) (W.Console.written e.link) (W.Console.moments e.link))
+        e.why) }
 
     // From the tables that were loaded: what came of the input are messages and a rest, what was written are their answers, the replies in
     // them are told by the whole history of the tables that are left, whose story is a run of the one-thread store, and nothing of the input

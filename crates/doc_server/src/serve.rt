@@ -1,7 +1,8 @@
-ghost use Rattle.std.specs.Prelude.{◌≡◌, ◌≤◌, ◌<◌, ◌==◌, ◌+◌, ◌^◌, ℕ, false, if◌then◌else◌, List, length, take, drop, IfErr, OnOk, OnErr};
+ghost use Rattle.std.specs.Prelude.{◌≡◌, ◌≤◌, ◌<◌, ◌==◌, ◌+◌, ◌^◌, ℕ, false, if◌then◌else◌, List, length, take, drop, OnOk, OnErr};
 ghost use Rattle.outside.specs.Told.{Grows};
 ghost use Rattle.outside.specs.Causes.{HasCause};
-ghost use Rattle.doc_server.specs.Talk.{scene, Talks, AtEnd, Faults};
+ghost use Rattle.doc_server.specs.Talk.{scene, Talks, Faults};
+ghost use Rattle.doc_server.specs.Ending.{Ending};
 ghost use Rattle.doc_server.specs.Steps.{Fetches, Moves, Answers, Sends, end_of, fault_of};
 
 use crate::why::Why;
@@ -102,8 +103,7 @@ fn fetch<L: Link>(
     ensures fetches { (piece : List ℕ) × Moves
         (scene (L.taken link.old) (L.left link.old) (L.written link.old) (L.moments link.old))
         (scene (L.taken link.new) (L.left link.new) (L.written link.new) (L.moments link.new)) piece
-        × Fetches result piece count buffer.old.items buffer.new.items }
-    ensures end { IfErr result (λ why. AtEnd why (L.left link.new)) }
+        × Fetches result piece count buffer.old.items buffer.new.items (L.left link.new) }
     ensures faults { Faults (end_of result) (L.read_faults link.old) (L.read_faults link.new)
         (L.write_faults link.old) (L.write_faults link.new) }
 {
@@ -192,7 +192,9 @@ fn converse<L: Link, T: TableDesk>(
         (scene (L.taken link.old) (L.left link.old) (L.written link.old) (L.moments link.old))
         (scene (L.taken link.new) (L.left link.new) (L.written link.new) (L.moments link.new))
         (T.at tables.old) (T.at tables.new) result.why result.commands }
-    ensures end { AtEnd result.why (L.left link.new) }
+    ensures ends { Ending
+        (scene (L.taken link.old) (L.left link.old) (L.written link.old) (L.moments link.old))
+        (scene (L.taken link.new) (L.left link.new) (L.written link.new) (L.moments link.new)) result.why }
     ensures faults { Faults result.why (L.read_faults link.old) (L.read_faults link.new)
         (L.write_faults link.old) (L.write_faults link.new) }
 {
@@ -247,7 +249,8 @@ pub fn serve_link<L: Link, T: TableDesk>(
         (scene (L.taken link) (L.left link) (L.written link) (L.moments link))
         (scene (L.taken result.link) (L.left result.link) (L.written result.link) (L.moments result.link))
         (T.at tables.old) (T.at tables.new) result.why result.commands }
-    ensures end { AtEnd result.why (L.left result.link) }
+    ensures ends { Ending (scene (L.taken link) (L.left link) (L.written link) (L.moments link))
+        (scene (L.taken result.link) (L.left result.link) (L.written result.link) (L.moments result.link)) result.why }
     ensures faults { Faults result.why (L.read_faults link) (L.read_faults result.link)
         (L.write_faults link) (L.write_faults result.link) }
     ensures lost { result.lost ≡ 0 }

@@ -62,7 +62,8 @@ cut-at buffer lent rest used len lent_is rest_is =
 
 -- a piece came
 came : (old mid new : Scene) (commands : ℕ) (all piece : List ℕ) (script : List Executed) (rest : List ℕ)
-    → Talk old mid NoMemory commands all script rest → Moves mid new piece → Talk old new NoMemory commands (all ++ piece) script (rest ++ piece)
+    → Talk old mid NoMemory commands all script rest → Moves mid new piece
+    → Talk old new NoMemory commands (all ++ piece) script (rest ++ piece)
 came old mid new commands all piece script rest talk moves = record {
   taken = grows-on old.took mid.took new.took all piece talk.taken moves.taken;
   came = shrinks-on old.left mid.left new.left all piece talk.came moves.came;
@@ -109,8 +110,8 @@ ended old new commands all script rest why so ends talk = record {
 
 -- it stood at the front of the rest and was executed; its answer was written so
 module _ (old mid new : Scene) (commands : ℕ) (all : List ℕ) (script : List Executed) (rest piece behind : List ℕ) (m : Message)
-    (talk : Talk old mid NoMemory commands all script rest) (cut : rest ≡ piece ++ behind) (is : message piece m) (took : new.took ≡ mid.took)
-    (left : new.left ≡ mid.left) (t : Executed) (of : t.message ≡ m) (sound : IsSound t)
+    (talk : Talk old mid NoMemory commands all script rest) (cut : rest ≡ piece ++ behind) (is : message piece m)
+    (took : new.took ≡ mid.took) (left : new.left ≡ mid.left) (t : Executed) (of : t.message ≡ m) (sound : IsSound t)
     (timed : Grows mid.moments new.moments (t.now ∷ [])) where
   spoke : (why : Why) → (in_order all (messages (script ++ t ∷ [])) behind → Framed why all (messages (script ++ t ∷ [])) behind)
       → Wrote why old.wrote new.wrote (bytes_of (script ++ t ∷ [])) → Talk old new why (commands + 1) all (script ++ t ∷ []) behind

@@ -61,6 +61,11 @@ def distinct(coll, key):
     return message(element(0x02, "distinct", string(coll)), element(0x02, "key", string(key)), element(0x02, "$db", string("t")))
 
 
+def update(coll, query, change):
+    items = document(element(0x03, "0", document(element(0x03, "q", query), element(0x03, "u", change))))
+    return message(element(0x02, "update", string(coll)), element(0x04, "updates", items), element(0x02, "$db", string("t")))
+
+
 def person(number):
     """A document of 236 bytes: an `_id`, five ints, a long, two strings, an array of three strings, a document of two fields."""
     ints = [element(0x10, name, int32(number)) for name in ["age", "height", "weight", "visits", "orders"]]

@@ -9,7 +9,7 @@ Each document has 236 bytes. Each time is the least of some runs, less that of t
 
 import sys
 
-from messages import count, distinct, element, find, insert, int32, person, seconds
+from messages import count, distinct, document, element, find, insert, int32, person, seconds, update
 
 SIZES = 1_000, 10_000
 RUNS = 3
@@ -27,6 +27,7 @@ def rates(program, size):
     rates = {"insert": size / alone}
     for words, one, many in [
         ("find by _id", find("c", element(0x10, "_id", int32(7))), 20_000),
+        ("$inc by _id", update("c", document(element(0x10, "_id", int32(7))), raised("visits")), 20_000),
         ("find that 10 documents meet", find("c", element(0x10, "age", int32(7))), 1_000_000 // size),
         ("find by $gte that 10 documents meet", find("c", element(0x03, "_id", at_least(size - 10))), 100_000 // size),
         ("find of all, more than a batch", find("c"), 100_000 // size),
@@ -40,8 +41,11 @@ def rates(program, size):
 
 
 def at_least(number):
-    operator = element(0x10, "$gte", int32(number))
-    return int32(len(operator) + 5) + operator + b"\0"
+    return document(element(0x10, "$gte", int32(number)))
+
+
+def raised(name):
+    return document(element(0x03, "$inc", document(element(0x10, name, int32(1)))))
 
 
 def main():

@@ -1,18 +1,20 @@
 #!/usr/bin/env python3
-"""Inserts documents through `ferretd pipe`, finds them again, counts them and lists their names. The program's path is the one argument."""
+"""Inserts documents through `ferretd pipe`, finds, counts, updates and deletes them. The program's path is the one argument."""
 
 import struct
 import subprocess
 import sys
 
 
-# ---- BSON: documents with int32s, strings, documents and arrays, which is all that these messages need
+# ---- BSON: documents with bools, int32s, strings, documents and arrays, which is all that these messages need
 
 def spell(document):
     inside = b""
     for name, value in document.items():
         name = name.encode() + b"\0"
-        if isinstance(value, int):
+        if isinstance(value, bool):
+            inside += b"\x08" + name + bytes([value])
+        elif isinstance(value, int):
             inside += b"\x10" + name + struct.pack("<i", value)
         elif isinstance(value, str):
             text = value.encode() + b"\0"
@@ -36,6 +38,8 @@ def read(bytes_, place=0):
             value, place = struct.unpack_from("<i", bytes_, place)[0], place + 4
         elif code == 0x12:
             value, place = struct.unpack_from("<q", bytes_, place)[0], place + 8
+        elif code == 0x08:
+            value, place = bytes_[place] == 1, place + 1
         elif code == 0x02:
             size = struct.unpack_from("<i", bytes_, place)[0]
             value, place = bytes_[place + 4:place + 3 + size].decode(), place + 4 + size
@@ -72,6 +76,13 @@ asked = b"".join([
     message(5, {"find": "people", "filter": {"name": {"$gt": "Bob"}}, "$db": "town"}),
     message(6, {"count": "people", "query": {"_id": {"$gte": 1}}, "$db": "town"}),
     message(7, {"distinct": "people", "key": "name", "$db": "town"}),
+    message(8, {"update": "people", "updates": [
+        {"q": {"_id": 1}, "u": {"$inc": {"visits": 1}}},
+        {"q": {"_id": 3}, "u": {"$set": {"name": "Fay"}}, "upsert": True},
+    ], "$db": "town"}),
+    message(9, {"findAndModify": "people", "query": {"name": "Eve"}, "update": {"$set": {"name": "Eva"}}, "new": True, "$db": "town"}),
+    message(10, {"delete": "people", "deletes": [{"q": {"name": {"$gt": "Bob"}}, "limit": 0}], "$db": "town"}),
+    message(11, {"find": "people", "$db": "town"}),
 ])
 for reply in replies(subprocess.run([sys.argv[1], "pipe"], input=asked, stdout=subprocess.PIPE, check=True).stdout):
     print(reply)

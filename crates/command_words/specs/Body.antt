@@ -1,6 +1,7 @@
 -- What stands in a message: its first field has the command's name, the others and the sequences say what it works on.
 use Rattle.std.specs.Prelude.{ℕ, ℤ, pos, Bool, true, false, not, ◌||◌, List, [], ◌∷◌, ◌++◌, map, find, codes}
 use Rattle.std.specs.Prelude.{Option, None, Some, option_map}
+use Rattle.std.specs.List.{list_all}
 use Rattle.std.specs.Option.{option_or, unwrap_or}
 use Rattle.std.specs.Ordering.{int_eq}
 use Rattle.std.specs.Str.{bytes_eq}
@@ -27,6 +28,11 @@ abbrev pub is_whole : Value-F Value → Bool
 is_whole (Value-F.Int number) = true
 is_whole (Value-F.Long number) = true
 is_whole _ = false
+
+-- an array of documents
+abbrev pub are_documents : Value-F Value → Bool
+are_documents (Value-F.Arr items) = list_all (λ item. is_document (out-Value item)) items
+are_documents _ = false
 
 -- the string that the value is
 abbrev pub text_of : Value-F Value → List ℕ
@@ -73,13 +79,18 @@ made_or none make value = unwrap_or (option_map (λ it. make (out-Value it)) val
 abbrev pub field_or : {A : Type 0} → A → (Value-F Value → A) → List (Pair Value) → List ℕ → A
 field_or none make fields name = made_or none make (first_of name fields)
 
+-- the truth of the field of that name, or what stands for none
+abbrev pub truth_or : Bool → List (Pair Value) → List ℕ → Bool
+truth_or none fields name = field_or none truth_of fields name
+
 -- the documents of the sequence of that name
 abbrev pub sequence_of : List Sequence → List ℕ → Option (List (List (Pair Value)))
 sequence_of sequences name = option_map (λ (it : Sequence). it.docs) (find (λ (it : Sequence). bytes_eq it.name name) sequences)
 
 -- documents: those of the field of that name, where it is given, else those of the sequence
 abbrev pub documents_of : Message → List ℕ → List (List (Pair Value))
-documents_of m name = unwrap_or (option_or (option_map (λ it. documents_in (out-Value it)) (first_of name m.body)) (sequence_of m.sequences name)) []
+documents_of m name =
+    unwrap_or (option_or (option_map (λ it. documents_in (out-Value it)) (first_of name m.body)) (sequence_of m.sequences name)) []
 
 -- ---- names
 

@@ -1,14 +1,19 @@
 -- The tables of the code, as the definitions have them, and what the functions of the code tell one another.
-use Rattle.std.specs.Prelude.{ℕ, ◌≡◌, ⊤, true, ◌&&◌, ◌||◌, map, None, Some, Result, Ok, Err}
+use Rattle.std.specs.Prelude.{ℕ, ◌≡◌, ⊤, true, ◌&&◌, ◌||◌, List, map, None, Some, Result, Ok, Err}
 use Rattle.naming.specs.Names.{is_database_name, is_collection_name}
+use Rattle.bson_values.specs.declared.pairs.Pair.{Pair}
+use Rattle.bson_values.specs.declared.value.Value.{Value}
+use Rattle.bson_values.specs.declared.value.Value.TheViews.{out-Value}
 use Rattle.op_msg.specs.declared.message.Message.{Message}
+use Rattle.command_words.specs.declared.items.Items.{Items}
+use Rattle.command_words.specs.declared.items.Items.TheVariants.{Array, Documents}
 use Rattle.command_words.specs.declared.refused.CommandRefused.{CommandRefused}
 use Rattle.command_words.specs.declared.refused.CommandRefused.TheVariants.{Refused, NoMemory}
 use Rattle.command_words.specs.declared.tables.Row.{Row}
 use Rattle.command_words.specs.declared.tables.Table.{Table}
 use Rattle.command_words.specs.declared.word.Word.{Word}
 use Rattle.command_words.specs.Tables.{Field, Shape, shape_of}
-use Rattle.command_words.specs.Body.{word_in, db_of, coll_of}
+use Rattle.command_words.specs.Body.{pairs_of, word_in, db_of, coll_of}
 use Rattle.command_words.specs.Refusal.{MayWant, form_refusal}
 
 -- a row, and a table
@@ -17,6 +22,11 @@ told row = record { name = row.name.now; takes = row.takes; required = row.requi
 
 abbrev pub shape_told : Table → Shape
 shape_told table = record { own = table.own; fields = map told table.fields.now; free = table.free }
+
+-- items, wherever they lie
+abbrev pub items_told : Items → List (List (Pair Value))
+items_told (Array values) = map (λ item. pairs_of (out-Value item)) values.now
+items_told (Documents docs) = docs.now
 
 -- the message's form is in order, this is its command, and the names of its space are such as may be; or why not
 abbrev pub Asks : Message → Result Word CommandRefused → Type 0

@@ -11,6 +11,7 @@ use crate::operands::{count_in, filter_in, path_in, truth_or};
 use crate::refusal::asked;
 use crate::refused::CommandRefused;
 use crate::word::Word;
+use crate::writes::{change_in, deletes_of, updates_of};
 use bson_values::{Document, List, NoMemory, Space, Text};
 use doc_model::{Op, Query};
 use op_msg::Message;
@@ -22,6 +23,10 @@ pub enum Command {
     Ping,
     /// Documents are inserted in order; where `ordered`, none behind one that is refused.
     Insert { ops: List<Op>, ordered: bool },
+    /// Likewise, an operation an item.
+    Update { ops: List<Op>, ordered: bool },
+    Delete { ops: List<Op>, ordered: bool },
+    FindAndModify { op: Op },
     Find { op: Op },
     Count { op: Op },
     Distinct { op: Op },
@@ -76,6 +81,48 @@ fn insert(alloc: Global, message: Message) -> Result<Command, CommandRefused>
     Ok(Command::Insert { ops, ordered })
 }
 
+fn update(alloc: Global, message: Message) -> Result<Command, CommandRefused>
+    ensures { Gives result (meaning word.Update message) }
+{
+    let space = space_of(alloc, &message)?;
+    let ordered = truth_or(true, &message.body, "ordered");
+    let items = documents_named(alloc, message, "updates")?;
+    let ops = updates_of(alloc, &space, items.as_slice())?;
+    Ok(Command::Update { ops, ordered })
+}
+
+fn delete(alloc: Global, message: Message) -> Result<Command, CommandRefused>
+    ensures { Gives result (meaning word.Delete message) }
+{
+    let space = space_of(alloc, &message)?;
+    let ordered = truth_or(true, &message.body, "ordered");
+    let items = documents_named(alloc, message, "deletes")?;
+    let ops = deletes_of(alloc, &space, items.as_slice())?;
+    Ok(Command::Delete { ops, ordered })
+}
+
+fn find_and_modify(alloc: Global, message: &Message) -> Result<Command, CommandRefused>
+    ensures { Gives result (meaning word.FindAndModify message.now) }
+{
+    let space = space_of(alloc, message)?;
+    let filter = filter_in(alloc, &message.body, "query")?;
+    match change_in(alloc, &message.body) {
+        Ok(change) => Ok(Command::FindAndModify {
+            op: Op::FindAndModify {
+                space,
+                filter,
+                change,
+                fresh: truth_or(false, &message.body, "new"),
+                upsert: truth_or(false, &message.body, "upsert"),
+            },
+        }),
+        Err(why) => {
+            drop(filter);
+            Err(why)
+        }
+    }
+}
+
 fn find(alloc: Global, message: &Message) -> Result<Command, CommandRefused>
     ensures { Gives result (meaning word.Find message.now) }
 {
@@ -126,6 +173,9 @@ fn meant(alloc: Global, by: Word, message: Message) -> Result<Command, CommandRe
     match by {
         Word::Ping => Ok(Command::Ping),
         Word::Insert => insert(alloc, message),
+        Word::Update => update(alloc, message),
+        Word::Delete => delete(alloc, message),
+        Word::FindAndModify => find_and_modify(alloc, &message),
         Word::Find => find(alloc, &message),
         Word::Count => count(alloc, &message),
         Word::Distinct => distinct(alloc, &message),

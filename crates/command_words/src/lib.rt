@@ -5,6 +5,7 @@ mod body;
 mod command;
 mod documents;
 mod fields;
+mod items;
 mod names;
 mod operands;
 mod refusal;
@@ -13,6 +14,7 @@ mod tables;
 mod takes;
 mod values;
 mod word;
+mod writes;
 
 pub use command::Command;
 pub use refused::CommandRefused;

@@ -1,22 +1,25 @@
 ghost use Rattle.std.specs.Prelude.{◌≡◌, []};
 ghost use Rattle.bson_values.specs.declared.value.Value.TheViews.{out-Value};
 ghost use Rattle.filter_syntax.specs.Reading.{read};
+ghost use Rattle.update_syntax.specs.Reading.{read_in};
 ghost use Rattle.doc_shape.specs.Reading.{path_of};
-ghost use Rattle.command_words.specs.Body.{field_or, pairs_of, text_of, truth_of};
-ghost use Rattle.command_words.specs.Meaning.{filter_in, count_in};
+ghost use Rattle.command_words.specs.Body.{field_or, truth_or, pairs_of, text_of};
+ghost use Rattle.command_words.specs.Meaning.{filter_in, count_in, update_in};
 ghost use Rattle.command_words.specs.Told.{Gives};
 
 use crate::refused::CommandRefused;
 use crate::values::{text_of, truth_of, whole_of};
 use bson_values::{Document, Value};
+use case_tables::FIELD_MISSING;
 use doc_paths::Path;
 use doc_shape::{ShapeRefused, read_path};
 use filter_syntax::{Filter, FilterRefused};
 use std::alloc::Global;
+use update_syntax::{Update, UpdateRefused};
 
 /// The truth of the field of that name, or what stands for none.
 pub(crate) fn truth_or(none: bool, fields: &Document, name: &str) -> bool
-    ensures { result ≡ field_or none truth_of fields.now name.now }
+    ensures { result ≡ truth_or none fields.now name.now }
 {
     match fields.get(name) {
         Some(value) => truth_of(value),
@@ -84,5 +87,30 @@ pub(crate) fn filter_in(
     match fields.get(name) {
         Some(value) => filter_of(alloc, value),
         None => read_filter(alloc, &Document::new(alloc)),
+    }
+}
+
+fn read_update(alloc: Global, multi: bool, value: &Value) -> Result<Update, CommandRefused>
+    ensures { Gives result (read_in multi (out-Value value.now)) }
+{
+    match Update::read(alloc, value, multi) {
+        Ok(update) => Ok(update),
+        Err(UpdateRefused::Refused(kind)) => Err(CommandRefused::Refused(kind)),
+        Err(UpdateRefused::NoMemory) => Err(CommandRefused::NoMemory),
+    }
+}
+
+/// The update that the field of that name reads as, of all documents with `multi`. A form that is in order has the field.
+pub(crate) fn update_in(
+    alloc: Global,
+    multi: bool,
+    fields: &Document,
+    name: &str,
+) -> Result<Update, CommandRefused>
+    ensures { Gives result (update_in multi fields.now name.now) }
+{
+    match fields.get(name) {
+        Some(value) => read_update(alloc, multi, value),
+        None => Err(CommandRefused::Refused(FIELD_MISSING)),
     }
 }

@@ -1,10 +1,10 @@
 ghost use Rattle.std.specs.Prelude.{◌≡◌, map, find, option_map};
 ghost use Rattle.std.specs.Str.{bytes_eq};
-ghost use Rattle.command_words.specs.Tables.{shape_of, commands};
-ghost use Rattle.command_words.specs.Refusal.{takes_among, takes_of};
+ghost use Rattle.command_words.specs.Tables.{shape_of, item_fields, commands};
+ghost use Rattle.command_words.specs.Refusal.{takes_among, takes_of, item_takes};
 ghost use Rattle.command_words.specs.Told.{told, shape_told};
 
-use crate::takes::Takes;
+use crate::takes::{Item, Takes};
 use crate::word::Word;
 
 /// The name of a command.
@@ -30,14 +30,21 @@ pub(crate) struct Table {
     free: bool,
 }
 
-/// The table of a command: what stands beside its name, and its fields as `may "name": Takes`, or `must` of one that has to be there.
-macro_rules! table {
+/// Rows of fields, as `may "name": Takes`, or `must` of one that has to be there.
+macro_rules! rows {
     (@required may) => { false };
     (@required must) => { true };
-    ($own:ident { $($how:ident $name:literal: $takes:ident),* $(,)? }) => {
+    ($($how:ident $name:literal: $takes:ident $(($item:ident))?),* $(,)?) => {
+        [$(Row { name: $name, takes: Takes::$takes $((Item::$item))?, required: rows!(@required $how) }),*]
+    };
+}
+
+/// The table of a command: what stands beside its name, and its fields.
+macro_rules! table {
+    ($own:ident { $($rows:tt)* }) => {
         Table {
             own: Takes::$own,
-            fields: &[$(Row { name: $name, takes: Takes::$takes, required: table!(@required $how) }),*],
+            fields: &rows! { $($rows)* },
             free: false,
         }
     };
@@ -50,9 +57,13 @@ macro_rules! commands {
     };
 }
 
-static COMMANDS: [Name; 5] = commands! {
+static COMMANDS: [Name; 9] = commands! {
     "ping" => Ping,
     "insert" => Insert,
+    "update" => Update,
+    "delete" => Delete,
+    "findAndModify" => FindAndModify,
+    "findandmodify" => FindAndModify,
     "find" => Find,
     "count" => Count,
     "distinct" => Distinct,
@@ -66,12 +77,26 @@ static FREE: Table = Table {
 
 static INSERT: Table = table! { Text { must "documents": Documents, may "ordered": Truth } };
 
+static UPDATE: Table = table! { Text { must "updates": Items(Update), may "ordered": Truth } };
+
+static DELETE: Table = table! { Text { must "deletes": Items(Delete), may "ordered": Truth } };
+
+static FIND_AND_MODIFY: Table = table! { Text {
+    may "query": Document, may "remove": Truth, may "update": DocumentOrArray, may "new": Truth, may "upsert": Truth,
+} };
+
 static FIND: Table = table! { Text { may "filter": Document } };
 
 static COUNT: Table =
     table! { Text { may "query": Document, may "skip": Natural, may "limit": Whole } };
 
 static DISTINCT: Table = table! { Text { must "key": Text, may "query": Document } };
+
+static UPDATE_ITEM: [Row; 4] = rows! {
+    must "q": Document, must "u": DocumentOrArray, may "multi": Truth, may "upsert": Truth,
+};
+
+static DELETE_ITEM: [Row; 2] = rows! { must "q": Document, must "limit": ZeroOrOne };
 
 #[tactic(auto, unfolding(crate::specs::Tables::commands))]
 fn commands() -> &'static [Name]
@@ -87,6 +112,9 @@ fn table_of(word: Word) -> &'static Table
     match word {
         Word::Ping => &FREE,
         Word::Insert => &INSERT,
+        Word::Update => &UPDATE,
+        Word::Delete => &DELETE,
+        Word::FindAndModify => &FIND_AND_MODIFY,
         Word::Find => &FIND,
         Word::Count => &COUNT,
         Word::Distinct => &DISTINCT,
@@ -98,6 +126,17 @@ pub(crate) fn fields_of(word: Word) -> &'static [Row]
     ensures { map told result.now ≡ (shape_of word).fields }
 {
     table_of(word).fields
+}
+
+/// The fields of an item.
+#[tactic(auto, unfolding(crate::specs::Tables::item_fields))]
+pub(crate) fn item_fields(item: Item) -> &'static [Row]
+    ensures { map told result.now ≡ item_fields item }
+{
+    match item {
+        Item::Update => &UPDATE_ITEM,
+        Item::Delete => &DELETE_ITEM,
+    }
 }
 
 /// What stands beside the command's name.
@@ -140,6 +179,13 @@ fn takes_among(rows: &[Row], name: &str) -> Takes
     ensures { result ≡ takes_among (map told rows.now) name.now }
 {
     find_takes(rows, name).unwrap_or(Takes::Unknown)
+}
+
+/// What the field of an item takes.
+pub(crate) fn item_takes(item: Item, name: &str) -> Takes
+    ensures { result ≡ item_takes item name.now }
+{
+    takes_among(item_fields(item), name)
 }
 
 /// What the field of a command takes.

@@ -1,11 +1,12 @@
 ghost use Rattle.std.specs.Prelude.{◌≡◌, length};
 ghost use Rattle.std.specs.List.{list_all};
 ghost use Rattle.bson_values.specs.declared.value.Value.TheViews.{out-Value};
-ghost use Rattle.command_words.specs.Body.{is_document, is_whole, text_of, whole_of, truth_of, values_in};
-ghost use Rattle.command_words.specs.Refusal.{has_type, may_be_items, in_range};
+ghost use Rattle.command_words.specs.Body.{is_document, are_documents, is_whole, text_of, pairs_of, whole_of, truth_of, values_in};
+ghost use Rattle.command_words.specs.Refusal.{has_type, may_be_items, in_range, value_refusal};
 
 use crate::takes::Takes;
-use bson_values::Value;
+use bson_values::{Pair, Value};
+use case_tables::{FIELD_OUT_OF_RANGE, Kind, WRONG_TYPE};
 
 fn is_document(value: &Value) -> bool
     ensures { result ≡ is_document (out-Value value.now) }
@@ -25,6 +26,15 @@ fn all_documents(items: &[Value]) -> bool
     items.iter().all(|item| is_document(item))
 }
 
+fn are_documents(value: &Value) -> bool
+    ensures { result ≡ are_documents (out-Value value.now) }
+{
+    match value {
+        Value::Arr(items) => all_documents(items.as_slice()),
+        _ => false,
+    }
+}
+
 /// Whether the value has the type that is taken.
 pub(crate) fn has_type(takes: Takes, value: &Value) -> bool
     ensures { result ≡ has_type takes (out-Value value.now) }
@@ -32,15 +42,16 @@ pub(crate) fn has_type(takes: Takes, value: &Value) -> bool
     match takes {
         Takes::Text => matches!(value, Value::Str(_)),
         Takes::Document => is_document(value),
+        Takes::DocumentOrArray => match value {
+            Value::Arr(_) => true,
+            _ => is_document(value),
+        },
         Takes::Truth => match value {
             Value::Bool(_) => true,
             _ => is_whole(value),
         },
-        Takes::Whole | Takes::Natural => is_whole(value),
-        Takes::Documents => match value {
-            Value::Arr(items) => all_documents(items.as_slice()),
-            _ => false,
-        },
+        Takes::Whole | Takes::Natural | Takes::ZeroOrOne => is_whole(value),
+        Takes::Documents | Takes::Items(_) => are_documents(value),
         _ => true,
     }
 }
@@ -67,9 +78,33 @@ pub(crate) fn in_range(takes: Takes, value: &Value) -> bool
     ensures { result ≡ in_range takes (out-Value value.now) }
 {
     match takes {
-        Takes::Documents => may_be_items(count_of(value)),
         Takes::Natural => 0 <= whole_of(value),
+        Takes::ZeroOrOne => 0 <= whole_of(value) && whole_of(value) <= 1,
+        Takes::Documents | Takes::Items(_) => may_be_items(count_of(value)),
         _ => true,
+    }
+}
+
+/// Why a field that takes this is refused with this value. Items are not looked into.
+pub(crate) fn value_refusal(takes: Takes, value: &Value) -> Option<Kind>
+    ensures { result ≡ value_refusal takes (out-Value value.now) }
+{
+    if !has_type(takes, value) {
+        return Some(WRONG_TYPE);
+    }
+    if !in_range(takes, value) {
+        return Some(FIELD_OUT_OF_RANGE);
+    }
+    None
+}
+
+/// The fields of the document that the value is.
+pub(crate) fn pairs_of(value: &Value) -> &[Pair<Value>]
+    ensures { result.now ≡ pairs_of (out-Value value.now) }
+{
+    match value {
+        Value::Doc(document) => document.as_slice(),
+        _ => &[],
     }
 }
 

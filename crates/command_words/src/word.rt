@@ -3,6 +3,9 @@
 pub(crate) enum Word {
     Ping,
     Insert,
+    Update,
+    Delete,
+    FindAndModify,
     Find,
     Count,
     Distinct,

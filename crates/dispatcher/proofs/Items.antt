@@ -1,5 +1,5 @@
 -- The items of a write, one after another.
-use Rattle.std.proofs.Common.{◌≡◌, ◌⊎◌, ℕ, zero, suc, ◌+◌, ◌≤◌, ◌<◌, Bool, true, false, ◌&&◌, ◌||◌, List, [], ◌∷◌, ◌++◌, length, map, take, drop, get_or, ⊎_elim}
+use Rattle.std.proofs.Common.{◌≡◌, ◌⊎◌, ℕ, zero, suc, ◌+◌, ◌≤◌, ◌<◌, Bool, true, false, ◌&&◌, ◌||◌, List, [], ◌∷◌, ◌++◌, length, map, take, drop, get_or, MatchBool, ⊎_elim}
 use Rattle.std.proofs.Common.{refl, ap, sym, ◌∙◌, subst, arith, length-append}
 use Rattle.std_words.proofs.Tests.{or-either}
 use Rattle.history_lock.specs.Places.{same_who}
@@ -7,108 +7,54 @@ use Rattle.history_lock.specs.declared.entry.Who.{Who}
 use Rattle.table_words.specs.Tables.{Tables}
 use Rattle.doc_model.specs.declared.op.Op.{Op}
 use Rattle.doc_model.specs.declared.op.OpReply.{OpReply}
-use Rattle.doc_model.specs.declared.op.OpReply.TheVariants as replied
 use Rattle.doc_model.specs.Run.{Done, whos}
 use Rattle.doc_history.specs.Part.{Views, Served}
 use Rattle.doc_history.proofs.Going.{served_none, served_on}
 use Rattle.reply_words.specs.declared.ends.ItemEnd.{ItemEnd}
-use Rattle.dispatcher.specs.Answers.{Stops, end_of}
-use Rattle.dispatcher.specs.Answering.{Did, DidOne, DidItems, DidAll, GoesOn, fails}
+use Rattle.dispatcher.specs.Answers.{Stops, end_of, fails}
+use Rattle.dispatcher.specs.Answering.{Did, DidOne, DidItems, DidAll, GoesOn}
 use Rattle.dispatcher.specs.Script.{numbered}
 use Rattle.dispatcher.proofs.Numbered.{Between, append-nil, numbered-none, numbered-between, one-between, numbered-last, apart-at}
+
+abbrev stays : Bool → OpReply → Bool
+stays ordered one = ordered && fails (end_of one)
+
+longer : (op : Op) (ops : List Op) (r : OpReply) (rs : List OpReply) → length ops ≡ length rs → length (op ∷ ops) ≡ length (r ∷ rs)
+longer op ops r rs same = grind (arith, same)
 
 -- each has a reply
 goes-long : (ordered : Bool) (ops : List Op) (rs : List OpReply) → GoesOn ordered ops rs → length ops ≡ length rs
 goes-long ordered [] [] goes = refl
-goes-long true (op ∷ ops) (replied.Inserted ∷ rs) goes = let more = goes-long true ops rs goes in grind (arith, more)
-goes-long false (op ∷ ops) (replied.Inserted ∷ rs) goes = let more = goes-long false ops rs goes in grind (arith, more)
-goes-long false (op ∷ ops) (replied.Selected docs ∷ rs) goes = let more = goes-long false ops rs goes in grind (arith, more)
-goes-long false (op ∷ ops) (replied.Counted n ∷ rs) goes = let more = goes-long false ops rs goes in grind (arith, more)
-goes-long false (op ∷ ops) (replied.Values values ∷ rs) goes = let more = goes-long false ops rs goes in grind (arith, more)
-goes-long false (op ∷ ops) (replied.Refused kind ∷ rs) goes = let more = goes-long false ops rs goes in grind (arith, more)
-goes-long false (op ∷ ops) (replied.Fault ∷ rs) goes = let more = goes-long false ops rs goes in grind (arith, more)
-goes-long false (op ∷ ops) (replied.NoMemory ∷ rs) goes = let more = goes-long false ops rs goes in grind (arith, more)
-goes-long true (op ∷ ops) (replied.Selected docs ∷ rs) goes = absurd goes
-goes-long true (op ∷ ops) (replied.Counted n ∷ rs) goes = absurd goes
-goes-long true (op ∷ ops) (replied.Values values ∷ rs) goes = absurd goes
-goes-long true (op ∷ ops) (replied.Refused kind ∷ rs) goes = absurd goes
-goes-long true (op ∷ ops) (replied.Fault ∷ rs) goes = absurd goes
-goes-long true (op ∷ ops) (replied.NoMemory ∷ rs) goes = absurd goes
+goes-long ordered (op ∷ ops) (r ∷ rs) goes = longer op ops r rs (goes-long ordered ops rs goes.1)
 goes-long ordered [] (r ∷ rs) goes = absurd goes
 goes-long ordered (op ∷ ops) [] goes = absurd goes
-
-abbrev stays : Bool → OpReply → Type 0
-stays ordered one = ordered && fails (end_of one) ≡ false
-
--- one more, after which the write goes on
-goes-one : (ordered : Bool) (op : Op) (one : OpReply) → stays ordered one → GoesOn ordered (op ∷ []) (one ∷ [])
-goes-one true op replied.Inserted is = tt
-goes-one false op replied.Inserted is = tt
-goes-one false op (replied.Selected docs) is = tt
-goes-one false op (replied.Counted n) is = tt
-goes-one false op (replied.Values values) is = tt
-goes-one false op (replied.Refused kind) is = tt
-goes-one false op replied.Fault is = tt
-goes-one false op replied.NoMemory is = tt
-goes-one true op (replied.Selected docs) is = absurd (cc is)
-goes-one true op (replied.Counted n) is = absurd (cc is)
-goes-one true op (replied.Values values) is = absurd (cc is)
-goes-one true op (replied.Refused kind) is = absurd (cc is)
-goes-one true op replied.Fault is = absurd (cc is)
-goes-one true op replied.NoMemory is = absurd (cc is)
 
 goes-more : (ordered : Bool) (ops more : List Op) (rs others : List OpReply) → GoesOn ordered ops rs → GoesOn ordered more others
     → GoesOn ordered (ops ++ more) (rs ++ others)
 goes-more ordered [] more [] others goes rest = rest
-goes-more true (op ∷ ops) more (replied.Inserted ∷ rs) others goes rest = goes-more true ops more rs others goes rest
-goes-more false (op ∷ ops) more (replied.Inserted ∷ rs) others goes rest = goes-more false ops more rs others goes rest
-goes-more false (op ∷ ops) more (replied.Selected docs ∷ rs) others goes rest = goes-more false ops more rs others goes rest
-goes-more false (op ∷ ops) more (replied.Counted n ∷ rs) others goes rest = goes-more false ops more rs others goes rest
-goes-more false (op ∷ ops) more (replied.Values values ∷ rs) others goes rest = goes-more false ops more rs others goes rest
-goes-more false (op ∷ ops) more (replied.Refused kind ∷ rs) others goes rest = goes-more false ops more rs others goes rest
-goes-more false (op ∷ ops) more (replied.Fault ∷ rs) others goes rest = goes-more false ops more rs others goes rest
-goes-more false (op ∷ ops) more (replied.NoMemory ∷ rs) others goes rest = goes-more false ops more rs others goes rest
-goes-more true (op ∷ ops) more (replied.Selected docs ∷ rs) others goes rest = absurd goes
-goes-more true (op ∷ ops) more (replied.Counted n ∷ rs) others goes rest = absurd goes
-goes-more true (op ∷ ops) more (replied.Values values ∷ rs) others goes rest = absurd goes
-goes-more true (op ∷ ops) more (replied.Refused kind ∷ rs) others goes rest = absurd goes
-goes-more true (op ∷ ops) more (replied.Fault ∷ rs) others goes rest = absurd goes
-goes-more true (op ∷ ops) more (replied.NoMemory ∷ rs) others goes rest = absurd goes
+goes-more ordered (op ∷ ops) more (r ∷ rs) others goes rest = (goes.0, goes-more ordered ops more rs others goes.1 rest)
 goes-more ordered [] more (r ∷ rs) others goes rest = absurd goes
 goes-more ordered (op ∷ ops) more [] others goes rest = absurd goes
+
+at-true : (b : Bool) (P Q : Type 0) → b ≡ true → P → MatchBool b P Q
+at-true b P Q is p = subst (λ x. MatchBool x P Q) (sym is) p
+
+at-false : (b : Bool) (P Q : Type 0) → b ≡ false → Q → MatchBool b P Q
+at-false b P Q is q = subst (λ x. MatchBool x P Q) (sym is) q
 
 -- what goes on to the end stops there
 goes-stops : (ordered : Bool) (ops more : List Op) (rs others : List OpReply) → GoesOn ordered ops rs → Stops ordered more others
     → Stops ordered (ops ++ more) (rs ++ others)
 goes-stops ordered [] more [] others goes rest = rest
-goes-stops true (op ∷ ops) more (replied.Inserted ∷ rs) others goes rest = goes-stops true ops more rs others goes rest
-goes-stops false (op ∷ ops) more (replied.Inserted ∷ rs) others goes rest = goes-stops false ops more rs others goes rest
-goes-stops false (op ∷ ops) more (replied.Selected docs ∷ rs) others goes rest = goes-stops false ops more rs others goes rest
-goes-stops false (op ∷ ops) more (replied.Counted n ∷ rs) others goes rest = goes-stops false ops more rs others goes rest
-goes-stops false (op ∷ ops) more (replied.Values values ∷ rs) others goes rest = goes-stops false ops more rs others goes rest
-goes-stops false (op ∷ ops) more (replied.Refused kind ∷ rs) others goes rest = goes-stops false ops more rs others goes rest
-goes-stops false (op ∷ ops) more (replied.Fault ∷ rs) others goes rest = goes-stops false ops more rs others goes rest
-goes-stops false (op ∷ ops) more (replied.NoMemory ∷ rs) others goes rest = goes-stops false ops more rs others goes rest
-goes-stops true (op ∷ ops) more (replied.Selected docs ∷ rs) others goes rest = absurd goes
-goes-stops true (op ∷ ops) more (replied.Counted n ∷ rs) others goes rest = absurd goes
-goes-stops true (op ∷ ops) more (replied.Values values ∷ rs) others goes rest = absurd goes
-goes-stops true (op ∷ ops) more (replied.Refused kind ∷ rs) others goes rest = absurd goes
-goes-stops true (op ∷ ops) more (replied.Fault ∷ rs) others goes rest = absurd goes
-goes-stops true (op ∷ ops) more (replied.NoMemory ∷ rs) others goes rest = absurd goes
+goes-stops ordered (op ∷ ops) more (r ∷ rs) others goes rest =
+    at-false (stays ordered r) (rs ++ others ≡ []) (Stops ordered (ops ++ more) (rs ++ others)) goes.0
+    (goes-stops ordered ops more rs others goes.1 rest)
 goes-stops ordered [] more (r ∷ rs) others goes rest = absurd goes
 goes-stops ordered (op ∷ ops) more [] others goes rest = absurd goes
 
 -- an ordered write stops after an item that failed
-stops-one : (ordered : Bool) (op : Op) (more : List Op) (one : OpReply) → ordered && fails (end_of one) ≡ true
-    → Stops ordered (op ∷ more) (one ∷ [])
-stops-one true op more replied.Inserted is = absurd (cc is)
-stops-one true op more (replied.Selected docs) is = refl
-stops-one true op more (replied.Counted n) is = refl
-stops-one true op more (replied.Values values) is = refl
-stops-one true op more (replied.Refused kind) is = refl
-stops-one true op more replied.Fault is = refl
-stops-one true op more replied.NoMemory is = refl
-stops-one false op more one is = absurd (cc is)
+stops-one : (ordered : Bool) (op : Op) (more : List Op) (one : OpReply) → stays ordered one ≡ true → Stops ordered (op ∷ more) (one ∷ [])
+stops-one ordered op more one is = at-true (stays ordered one) ([] ≡ []) (Stops ordered more []) is refl
 
 map-append : (rs others : List OpReply) → map end_of (rs ++ others) ≡ map end_of rs ++ map end_of others
 map-append [] others = refl
@@ -189,7 +135,7 @@ module _ (s : Tables) (a b c : Views) (who mid who' : Who) (now : ℕ) (ordered 
       → DidItems s a c who who' now ordered (ops ++ op ∷ []) ends' (rs ++ one ∷ [])
   items-more ops rs ends ends' op failed one items it on = record {
     goes = goes-more ordered ops (op ∷ []) rs (one ∷ []) items.goes
-        (goes-one ordered op one (ap (λ f. ordered && f) (sym it.failed_is) ∙ on));
+        (ap (λ f. ordered && f) (sym it.failed_is) ∙ on, tt);
     did = did-last ops rs op one (goes-long ordered ops rs items.goes) items.did it.next it.served;
     ended = it.ended ∙ ap (λ es. es ++ end_of one ∷ []) items.ended ∙ sym (map-append rs (one ∷ []));
   }
@@ -232,23 +178,16 @@ module _ (s : Tables) (a b : Views) (who mid : Who) (now : ℕ) (ordered : Bool)
         ended = items.ended;
       })
 
+either : (b : Bool) (P Q R : Type 0) → (P → R) → (Q → R) → MatchBool b P Q → R
+either true P Q R f g = f
+either false P Q R f g = g
+
 -- a write has a reply for each item at most
 pub stops-few : (ordered : Bool) (ops : List Op) (rs : List OpReply) → Stops ordered ops rs → length rs ≤ length ops
 stops-few ordered [] [] stops = omega arith
-stops-few true (op ∷ ops) (replied.Inserted ∷ rs) stops = few-more op ops replied.Inserted rs (stops-few true ops rs stops)
-stops-few false (op ∷ ops) (replied.Inserted ∷ rs) stops = few-more op ops replied.Inserted rs (stops-few false ops rs stops)
-stops-few true (op ∷ ops) (replied.Selected docs ∷ rs) stops = few-one op ops (replied.Selected docs) rs stops
-stops-few true (op ∷ ops) (replied.Counted n ∷ rs) stops = few-one op ops (replied.Counted n) rs stops
-stops-few true (op ∷ ops) (replied.Values values ∷ rs) stops = few-one op ops (replied.Values values) rs stops
-stops-few true (op ∷ ops) (replied.Refused kind ∷ rs) stops = few-one op ops (replied.Refused kind) rs stops
-stops-few true (op ∷ ops) (replied.Fault ∷ rs) stops = few-one op ops replied.Fault rs stops
-stops-few true (op ∷ ops) (replied.NoMemory ∷ rs) stops = few-one op ops replied.NoMemory rs stops
-stops-few false (op ∷ ops) (replied.Selected docs ∷ rs) stops = few-more op ops (replied.Selected docs) rs (stops-few false ops rs stops)
-stops-few false (op ∷ ops) (replied.Counted n ∷ rs) stops = few-more op ops (replied.Counted n) rs (stops-few false ops rs stops)
-stops-few false (op ∷ ops) (replied.Values values ∷ rs) stops = few-more op ops (replied.Values values) rs (stops-few false ops rs stops)
-stops-few false (op ∷ ops) (replied.Refused kind ∷ rs) stops = few-more op ops (replied.Refused kind) rs (stops-few false ops rs stops)
-stops-few false (op ∷ ops) (replied.Fault ∷ rs) stops = few-more op ops replied.Fault rs (stops-few false ops rs stops)
-stops-few false (op ∷ ops) (replied.NoMemory ∷ rs) stops = few-more op ops replied.NoMemory rs (stops-few false ops rs stops)
+stops-few ordered (op ∷ ops) (r ∷ rs) stops =
+    either (stays ordered r) (rs ≡ []) (Stops ordered ops rs) (length (r ∷ rs) ≤ length (op ∷ ops)) (few-one op ops r rs)
+    (λ more. few-more op ops r rs (stops-few ordered ops rs more)) stops
 stops-few ordered [] (r ∷ rs) stops = absurd stops
 stops-few ordered (op ∷ ops) [] stops = absurd stops
 

@@ -6,3 +6,4 @@ mod Starved
 mod Sending
 mod Readings
 mod Writes
+mod Ids

@@ -1,4 +1,4 @@
--- An operation that reads, and what it is answered.
+-- A command that is one operation, and what it is answered.
 use Rattle.std.proofs.Common.{ℕ, ℤ, ◌+◌, List, [], ◌∷◌, refl, arith}
 use Rattle.history_lock.specs.declared.entry.Who.{Who}
 use Rattle.table_words.specs.Tables.{Tables}
@@ -12,7 +12,8 @@ use Rattle.doc_history.specs.Part.{Views, Served}
 use Rattle.doc_history.proofs.Going.{served_none}
 use Rattle.dispatcher.specs.declared.answers.Answered.{Answered}
 use Rattle.dispatcher.specs.declared.answers.Answered.TheVariants.{Whole, NoMemory}
-use Rattle.dispatcher.specs.Answering.{DoneBy, DoneOne, Reads, Told, ToldOne}
+use Rattle.dispatcher.specs.Answers.{removes}
+use Rattle.dispatcher.specs.Answering.{DoneBy, DoneOne, Modifies, Reads, Told, ToldOne}
 
 -- nothing was asked of the tables
 pub read-starved : (s : Tables) (v : Views) (who : Who) (now : ℕ) (number request : ℤ) (op : Op)
@@ -32,6 +33,9 @@ read-told number request op (replied.Values values) (Whole bytes) keeps is = (tt
 read-told number request op (replied.Refused kind) (Whole bytes) keeps is = (tt, is)
 read-told number request op replied.Fault (Whole bytes) keeps is = (tt, is)
 read-told number request op replied.Inserted (Whole bytes) keeps is = absurd keeps
+read-told number request op (replied.Updated matched changed upserted) (Whole bytes) keeps is = absurd keeps
+read-told number request op (replied.Deleted n) (Whole bytes) keeps is = absurd keeps
+read-told number request op (replied.Modified existed upserted value) (Whole bytes) keeps is = absurd keeps
 read-told number request op reply NoMemory keeps is = (omega arith, (keeps, tt))
 
 -- one operation was served
@@ -45,9 +49,48 @@ read-done s old new who now number request op reply a served keeps is = record {
   told = read-told number request op reply a keeps is;
 }
 
+-- ---- one that removes or changes a document
+
+change-told : (number request : ℤ) (op : Op) (reply : OpReply) (a : Answered) → Modifies number request (removes op) (space_of op) reply a
+    → ToldOne op number request (reply ∷ []) a
+change-told number request op replied.NoMemory (Whole bytes) is = absurd is
+change-told number request op (replied.Modified existed upserted value) (Whole bytes) is = (tt, is)
+change-told number request op replied.Inserted (Whole bytes) is = (tt, is)
+change-told number request op (replied.Updated matched changed upserted) (Whole bytes) is = (tt, is)
+change-told number request op (replied.Deleted n) (Whole bytes) is = (tt, is)
+change-told number request op (replied.Selected docs) (Whole bytes) is = (tt, is)
+change-told number request op (replied.Counted n) (Whole bytes) is = (tt, is)
+change-told number request op (replied.Values values) (Whole bytes) is = (tt, is)
+change-told number request op (replied.Refused kind) (Whole bytes) is = (tt, is)
+change-told number request op replied.Fault (Whole bytes) is = (tt, is)
+change-told number request op replied.NoMemory NoMemory is = (omega arith, (tt, tt))
+change-told number request op (replied.Selected docs) NoMemory is = (omega arith, (tt, tt))
+change-told number request op (replied.Counted n) NoMemory is = (omega arith, (tt, tt))
+change-told number request op (replied.Values values) NoMemory is = (omega arith, (tt, tt))
+change-told number request op (replied.Refused kind) NoMemory is = (omega arith, (tt, tt))
+change-told number request op replied.Fault NoMemory is = (omega arith, (tt, tt))
+change-told number request op replied.Inserted NoMemory is = absurd is
+change-told number request op (replied.Updated matched changed upserted) NoMemory is = absurd is
+change-told number request op (replied.Deleted n) NoMemory is = absurd is
+change-told number request op (replied.Modified existed upserted value) NoMemory is = absurd is
+
+pub change-done : (s : Tables) (old new : Views) (who : Who) (now : ℕ) (number request : ℤ) (op : Op) (reply : OpReply) (a : Answered)
+    → Served s old new (record { who = who; now = now; op = op; reply = reply } ∷ [])
+    → Modifies number request (removes op) (space_of op) reply a
+    → DoneOne s old new who (record who { op = who.op + 1 }) now number request op (reply ∷ []) a
+change-done s old new who now number request op reply a served is = record {
+  did = record { next = refl; served = served };
+  few = omega arith;
+  told = change-told number request op reply a is;
+}
+
 -- ---- the commands that are one operation
 
 module _ (number request : ℤ) (op : Op) (replies : List OpReply) where
+  told-change : (a : Answered) → ToldOne op number request replies a → Told (command.FindAndModify op) number request replies a
+  told-change (Whole bytes) is = is
+  told-change NoMemory is = is
+
   told-find : (a : Answered) → ToldOne op number request replies a → Told (command.Find op) number request replies a
   told-find (Whole bytes) is = is
   told-find NoMemory is = is
@@ -62,6 +105,9 @@ module _ (number request : ℤ) (op : Op) (replies : List OpReply) where
 
 module _ {s : Tables} {old new : Views} {who who' : Who} {now : ℕ} {number request : ℤ} {op : Op} {replies : List OpReply} {a : Answered}
     (by : DoneOne s old new who who' now number request op replies a) where
+  pub done-change : DoneBy s old new who who' now number request (command.FindAndModify op) replies a
+  done-change = record { did = by.did; few = by.few; told = told-change number request op replies a by.told }
+
   pub done-find : DoneBy s old new who who' now number request (command.Find op) replies a
   done-find = record { did = by.did; few = by.few; told = told-find number request op replies a by.told }
 

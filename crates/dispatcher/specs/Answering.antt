@@ -1,5 +1,5 @@
 -- What answering one message does. Links between contracts; nobody has to read them for the main clause.
-use Rattle.std.specs.Prelude.{ℕ, ℤ, ◌≡◌, ◌≤◌, ◌+◌, max, Bool, true, false, List, [], ◌∷◌, ◌++◌, length, map, Option, None, Some}
+use Rattle.std.specs.Prelude.{ℕ, ℤ, ◌≡◌, ◌≤◌, ◌+◌, max, Bool, true, false, ◌&&◌, List, [], ◌∷◌, ◌++◌, length, map, Option, None, Some}
 use Rattle.history_lock.specs.declared.entry.Who.{Who}
 use Rattle.history_lock.specs.Places.{Each}
 use Rattle.bson_values.specs.declared.space.Space.{Space}
@@ -9,10 +9,9 @@ use Rattle.command_words.specs.declared.command.Command.{Command}
 use Rattle.command_words.specs.declared.refused.CommandRefused.{CommandRefused}
 use Rattle.command_words.specs.declared.refused.CommandRefused.TheVariants as refused
 use Rattle.reply_words.specs.declared.ends.ItemEnd.{ItemEnd}
-use Rattle.reply_words.specs.declared.ends.ItemEnd.TheVariants as ended
 use Rattle.reply_words.specs.declared.replies.Reply.{Reply}
 use Rattle.reply_words.specs.declared.replies.Reply.TheVariants as it
-use Rattle.reply_words.specs.Replies.{document_of}
+use Rattle.reply_words.specs.Replies.{document_of, items_document, modified_document}
 use Rattle.doc_model.specs.declared.op.Op.{Op}
 use Rattle.doc_model.specs.declared.op.OpReply.{OpReply}
 use Rattle.doc_model.specs.declared.op.OpReply.TheVariants as replied
@@ -20,7 +19,7 @@ use Rattle.table_words.specs.Tables.{Tables}
 use Rattle.doc_history.specs.Part.{Views, Served}
 use Rattle.dispatcher.specs.declared.answers.Answered.{Answered}
 use Rattle.dispatcher.specs.declared.answers.Answered.TheVariants.{Whole, NoMemory}
-use Rattle.dispatcher.specs.Answers.{ops_in, Stops, Completes, IsOne, end_of, told, one_document, command_document, normal}
+use Rattle.dispatcher.specs.Answers.{ops_in, Stops, Completes, IsOne, end_of, fails, told, one_document, command_document, normal}
 use Rattle.doc_model.specs.Step.{Keeps}
 use Rattle.dispatcher.specs.Script.{Executed, IsSound, numbered, numbers, ops_from}
 
@@ -58,7 +57,7 @@ pub record DoneBy (s : Tables) (old new : Views) (who who' : Who) (now : ℕ) (n
   pub few : length replies ≤ 1000
   pub told : Told command number request replies answered
 
--- the same of one operation that reads
+-- the same of one operation
 abbrev pub ToldOne : Op → ℤ → ℤ → List OpReply → Answered → Type 0
 ToldOne op number request replies (Whole bytes) = IsOne replies × (bytes ≡ reply number request (one_document (op ∷ []) replies))
 ToldOne op number request replies NoMemory = (length replies ≤ 1) × Each Keeps replies
@@ -88,18 +87,20 @@ Reads number request space replied.NoMemory (Whole bytes) = ⊥
 Reads number request space answer (Whole bytes) = bytes ≡ reply number request (document_of (told space answer))
 Reads number request space answer NoMemory = Unit {0}
 
+-- the same of an operation that removes the document that it finds, or else changes it
+abbrev pub Modifies : ℤ → ℤ → Bool → Space → OpReply → Answered → Type 0
+Modifies number request removed space (replied.Modified existed upserted value) (Whole bytes) =
+    bytes ≡ reply number request (modified_document removed existed upserted value)
+Modifies number request removed space replied.NoMemory (Whole bytes) = ⊥
+Modifies number request removed space answer (Whole bytes) = bytes ≡ reply number request (document_of (told space answer))
+Modifies number request removed space answer NoMemory = Keeps answer
+
 -- ---- the items of a write
 
--- the item failed
-abbrev pub fails : ItemEnd → Bool
-fails (ended.Done n) = false
-fails (ended.Refused kind) = true
-
--- the operations so far were all tried: an ordered write goes on after those that went in alone
+-- the operations so far were all tried, and the write goes on
 abbrev pub GoesOn : Bool → List Op → List OpReply → Type 0
 GoesOn ordered [] [] = Unit {0}
-GoesOn ordered (op ∷ ops) (replied.Inserted ∷ replies) = GoesOn ordered ops replies
-GoesOn false (op ∷ ops) (error ∷ replies) = GoesOn false ops replies
+GoesOn ordered (op ∷ ops) (one ∷ replies) = (ordered && fails (end_of one) ≡ false) × GoesOn ordered ops replies
 GoesOn ordered ops replies = ⊥
 
 -- one item was done: its reply, and how it ended; whether it was refused
@@ -123,3 +124,15 @@ pub record DidAll (s : Tables) (old new : Views) (who who' : Who) (now : ℕ) (o
   pub stops : Stops ordered ops replies
   pub did : Did s old new who who' now ops replies (length replies)
   pub ended : ends ≡ map end_of replies
+
+-- what answers a write whose operations are replied so; or memory was wanting, and they left the documents
+abbrev pub ToldAll : Bool → List Op → Bool → ℤ → ℤ → List OpReply → Answered → Type 0
+ToldAll update ops ordered number request replies (Whole bytes) =
+    Stops ordered ops replies × (bytes ≡ reply number request (items_document update (map end_of replies)))
+ToldAll update ops ordered number request replies NoMemory = (length replies ≤ length ops) × Each Keeps replies
+
+pub record DoneAll (s : Tables) (old new : Views) (who who' : Who) (now : ℕ) (number request : ℤ) (update : Bool) (ops : List Op)
+    (ordered : Bool) (replies : List OpReply) (answered : Answered) : Type 0 where
+  pub did : Did s old new who who' now ops replies (max 1 (length replies))
+  pub few : length replies ≤ 1000
+  pub told : ToldAll update ops ordered number request replies answered

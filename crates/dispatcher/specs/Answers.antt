@@ -1,23 +1,27 @@
 -- What each message is answered whose operations are replied so.
-use Rattle.std.specs.Prelude.{ℕ, ℤ, pos, ◌≡◌, ◌+◌, ◌%◌, ◌^◌, Bool, true, false, if◌then◌else◌, List, [], ◌∷◌, map, Option, None, Some, option_map, is_some, MatchOption}
+use Rattle.std.specs.Prelude.{ℕ, ℤ, pos, ◌≡◌, ◌+◌, ◌%◌, ◌^◌, Bool, true, false, ◌&&◌, if◌then◌else◌, List, [], ◌∷◌, map}
+use Rattle.std.specs.Prelude.{Option, None, Some, option_map, is_some, MatchOption}
+use Rattle.std.specs.Bool.{MatchBool}
 use Rattle.bson_values.specs.declared.space.Space.{Space}
 use Rattle.bson_wire.specs.declared.foreign.Foreign.{Foreign}
 use Rattle.filter_syntax.specs.Meaning.{Doc}
 use Rattle.op_msg.specs.declared.message.Message.{Message}
 use Rattle.op_msg.specs.Reply.{reply}
+use Rattle.doc_model.specs.declared.op.Modify.TheVariants.{Remove}
 use Rattle.doc_model.specs.declared.op.Op.{Op}
+use Rattle.doc_model.specs.declared.op.Op.TheVariants as asked
 use Rattle.doc_model.specs.declared.op.OpReply.{OpReply}
 use Rattle.doc_model.specs.declared.op.OpReply.TheVariants as replied
 use Rattle.doc_model.specs.Named.{space_of}
 use Rattle.command_words.specs.declared.command.Command.{Command}
-use Rattle.command_words.specs.declared.command.Command.TheVariants.{Ping, Insert, Find, Count, Distinct}
+use Rattle.command_words.specs.declared.command.Command.TheVariants.{Ping, Insert, Update, Delete, FindAndModify, Find, Count, Distinct}
 use Rattle.command_words.specs.Refusal.{refusal}
 use Rattle.command_words.specs.Meaning.{command_of}
 use Rattle.reply_words.specs.declared.ends.ItemEnd.{ItemEnd}
 use Rattle.reply_words.specs.declared.ends.ItemEnd.TheVariants as ended
 use Rattle.reply_words.specs.declared.replies.Reply.{Reply}
 use Rattle.reply_words.specs.declared.replies.Reply.TheVariants as it
-use Rattle.reply_words.specs.Replies.{document_of, items_document, fit_a_batch}
+use Rattle.reply_words.specs.Replies.{document_of, items_document, modified_document, fit_a_batch}
 
 -- ---- the operations of a message, and their replies
 
@@ -25,6 +29,9 @@ use Rattle.reply_words.specs.Replies.{document_of, items_document, fit_a_batch}
 abbrev pub ops_in : Command → List Op
 ops_in Ping = []
 ops_in (Insert ops ordered) = ops
+ops_in (Update ops ordered) = ops
+ops_in (Delete ops ordered) = ops
+ops_in (FindAndModify op) = op ∷ []
 ops_in (Find op) = op ∷ []
 ops_in (Count op) = op ∷ []
 ops_in (Distinct op) = op ∷ []
@@ -33,15 +40,27 @@ ops_in (Distinct op) = op ∷ []
 unfoldable pub ops_of : Message → List Op
 ops_of m = if is_some (refusal m) then [] else ops_in (command_of m)
 
+-- how an item of a write ended: an upsert inserts one where none matched; a fault is kind 1, and want of memory kind 24
+abbrev pub end_of : OpReply → ItemEnd
+end_of replied.Inserted = ended.Done 1 0 None
+end_of (replied.Updated matched changed None) = ended.Done matched changed None
+end_of (replied.Updated matched changed (Some id)) = ended.Done 1 changed (Some id)
+end_of (replied.Deleted n) = ended.Done n 0 None
+end_of (replied.Refused kind) = ended.Refused kind
+end_of replied.NoMemory = ended.Refused 24
+end_of reply = ended.Refused 1
+
+abbrev pub fails : ItemEnd → Bool
+fails (ended.Done n changed upserted) = false
+fails (ended.Refused kind) = true
+
 -- each operation of a write has a reply, but that an ordered one stops after its first error
 abbrev pub Stops : Bool → List Op → List OpReply → Type 0
 Stops ordered [] [] = Unit {0}
-Stops ordered (op ∷ ops) (replied.Inserted ∷ replies) = Stops ordered ops replies
-Stops true (op ∷ ops) (error ∷ replies) = replies ≡ []
-Stops false (op ∷ ops) (error ∷ replies) = Stops false ops replies
+Stops ordered (op ∷ ops) (one ∷ replies) = MatchBool (ordered && fails (end_of one)) (replies ≡ []) (Stops ordered ops replies)
 Stops ordered ops replies = ⊥
 
--- one operation is replied; one that reads is not answered for want of memory
+-- one operation is replied; want of memory is answered otherwise
 abbrev pub IsOne : List OpReply → Type 0
 IsOne (replied.NoMemory ∷ []) = ⊥
 IsOne (one ∷ []) = Unit {0}
@@ -51,6 +70,8 @@ IsOne replies = ⊥
 abbrev pub Completes : Command → List OpReply → Type 0
 Completes Ping replies = replies ≡ []
 Completes (Insert ops ordered) replies = Stops ordered ops replies
+Completes (Update ops ordered) replies = Stops ordered ops replies
+Completes (Delete ops ordered) replies = Stops ordered ops replies
 Completes command replies = IsOne replies
 
 unfoldable pub IsComplete : Message → List OpReply → Type 0
@@ -58,14 +79,7 @@ IsComplete m replies = MatchOption (refusal m) (Completes (command_of m) replies
 
 -- ---- the document that tells them
 
--- how an item of an insert ended: a fault is kind 1, and want of memory kind 24
-abbrev pub end_of : OpReply → ItemEnd
-end_of replied.Inserted = ended.Done 1
-end_of (replied.Refused kind) = ended.Refused kind
-end_of replied.NoMemory = ended.Refused 24
-end_of reply = ended.Refused 1
-
--- what tells the reply of an operation in that collection that reads; documents are refused, so far, where they do not go into one batch
+-- what tells the reply of an operation in that collection; documents are refused, so far, where they do not go into one batch
 abbrev pub told : Space → OpReply → Reply
 told space (replied.Selected docs) = if fit_a_batch docs then it.Batch space docs else it.Error 29 None
 told space (replied.Counted n) = it.Counted n
@@ -73,12 +87,23 @@ told space (replied.Values values) = it.Values values
 told space (replied.Refused kind) = it.Error kind None
 told space reply = it.Error 1 None
 
+-- the operation is to remove the document that it finds
+abbrev pub removes : Op → Bool
+removes (asked.FindAndModify space it Remove fresh upsert) = true
+removes op = false
+
+abbrev pub op_document : Op → OpReply → Doc
+op_document op (replied.Modified existed upserted value) = modified_document (removes op) existed upserted value
+op_document op reply = document_of (told (space_of op) reply)
+
 abbrev pub one_document : List Op → List OpReply → Doc
-one_document (op ∷ []) (one ∷ []) = document_of (told (space_of op) one)
+one_document (op ∷ []) (one ∷ []) = op_document op one
 one_document ops replies = document_of it.Done
 
 abbrev pub command_document : Command → List OpReply → Doc
-command_document (Insert ops ordered) replies = items_document (map end_of replies)
+command_document (Insert ops ordered) replies = items_document false (map end_of replies)
+command_document (Update ops ordered) replies = items_document true (map end_of replies)
+command_document (Delete ops ordered) replies = items_document false (map end_of replies)
 command_document command replies = one_document (ops_in command) replies
 
 -- a refused message is answered with its refusal

@@ -5,9 +5,10 @@ ghost use Rattle.command_words.specs.declared.command.Command.TheVariants as com
 ghost use Rattle.dispatcher.specs.Answering.{DoneBy, Told};
 
 use crate::answers::Answered;
+use crate::modifying::modify;
 use crate::reading::read;
 use crate::telling::put;
-use crate::writing::insert;
+use crate::writing::write;
 use command_words::Command;
 use history_lock::Who;
 use reply_words::Reply;
@@ -50,8 +51,19 @@ pub(crate) fn done<T: TableDesk>(
     match command {
         Command::Ping => ping(alloc, who, number, request),
         Command::Insert { ops, ordered } => {
-            insert(alloc, tables, who, now, number, request, ops, ordered)
+            write(
+                alloc, tables, who, now, number, request, false, ops, ordered,
+            )
         }
+        Command::Update { ops, ordered } => {
+            write(alloc, tables, who, now, number, request, true, ops, ordered)
+        }
+        Command::Delete { ops, ordered } => {
+            write(
+                alloc, tables, who, now, number, request, false, ops, ordered,
+            )
+        }
+        Command::FindAndModify { op } => modify(alloc, tables, who, now, number, request, op),
         Command::Find { op } => read(alloc, tables, who, now, number, request, op),
         Command::Count { op } => read(alloc, tables, who, now, number, request, op),
         Command::Distinct { op } => read(alloc, tables, who, now, number, request, op),

@@ -3,6 +3,7 @@
 
 mod answers;
 mod commands;
+mod modifying;
 mod reading;
 mod telling;
 mod writing;

@@ -21,7 +21,7 @@ use std::alloc::Global;
 use table_words::TableDesk;
 
 /// The collection of an operation.
-fn space_of(alloc: Global, op: &Op) -> Result<Space, NoMemory>
+pub(crate) fn space_of(alloc: Global, op: &Op) -> Result<Space, NoMemory>
     ensures { IfOk result (λ space. space ≡ space_of op.now) }
 {
     match op {
@@ -29,10 +29,13 @@ fn space_of(alloc: Global, op: &Op) -> Result<Space, NoMemory>
         Op::Find { space, .. } => space.copy(alloc),
         Op::Count { space, .. } => space.copy(alloc),
         Op::Distinct { space, .. } => space.copy(alloc),
+        Op::Update { space, .. } => space.copy(alloc),
+        Op::Delete { space, .. } => space.copy(alloc),
+        Op::FindAndModify { space, .. } => space.copy(alloc),
     }
 }
 
-fn error(kind: Kind) -> Reply
+pub(crate) fn error(kind: Kind) -> Reply
     ensures value { result ≡ reply.Error kind None }
     ensures small { IsSmall result }
 {
@@ -56,7 +59,7 @@ fn batch(space: Space, docs: List<Document>) -> Reply
     }
 }
 
-/// What tells the reply of an operation in that collection that reads; nothing, where memory was wanting.
+/// What tells the reply of an operation in that collection that changed nothing; nothing, where memory was wanting.
 fn found(space: Space, reply: OpReply) -> Option<Reply>
     requires valid { is_valid space ≡ true }
     requires fits { Fits reply }
@@ -73,8 +76,14 @@ fn found(space: Space, reply: OpReply) -> Option<Reply>
     }
 }
 
-/// The answer to an operation that reads and was replied so.
-fn told(alloc: Global, number: i32, request: i32, space: Space, reply: OpReply) -> Answered
+/// The answer to an operation that was replied so, and changed nothing.
+pub(crate) fn told(
+    alloc: Global,
+    number: i32,
+    request: i32,
+    space: Space,
+    reply: OpReply,
+) -> Answered
     requires valid { is_valid space ≡ true }
     requires fits { Fits reply }
     ensures { Reads number request space reply result }

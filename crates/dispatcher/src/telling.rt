@@ -12,6 +12,9 @@ use op_msg::{head, put_reply};
 use reply_words::Reply;
 use std::alloc::Global;
 
+/// How many bytes of a reply stand before its document.
+pub(crate) const BEFORE: u64 = 21;
+
 /// The `requestID` of the reply that comes after so many: they are counted modulo 2^31, from 1 on.
 pub(crate) fn number_after(replies: u64) -> i32
     ensures value { result ≡ number_after replies }

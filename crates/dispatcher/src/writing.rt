@@ -1,12 +1,16 @@
-ghost use Rattle.std.specs.Prelude.{◌≡◌, ◌≤◌, ◌<◌, ◌+◌, ◌^◌, [], All, false, length, List as Seq};
+ghost use Rattle.std.specs.Prelude.{◌≡◌, ◌≤◌, ◌<◌, ◌+◌, ◌^◌, [], All, None, false, length, List as Seq};
 ghost use Rattle.doc_model.specs.Named.{IsNamed};
 ghost use Rattle.doc_model.specs.declared.op.OpReply.{OpReply as Replied};
-ghost use Rattle.command_words.specs.declared.command.Command.TheVariants as command;
-ghost use Rattle.dispatcher.specs.Answers.{end_of};
-ghost use Rattle.dispatcher.specs.Answering.{DidAll, DidOne, DoneBy, fails};
+ghost use Rattle.doc_model.specs.declared.op.OpReply.TheVariants as replied;
+ghost use Rattle.doc_store.specs.Replies.{Fits, FitsId};
+ghost use Rattle.reply_words.specs.Small.{AreShort, HasShortId};
+ghost use Rattle.reply_words.specs.declared.ends.ItemEnd.TheVariants as ended;
+ghost use Rattle.dispatcher.specs.Answers.{end_of, fails};
+ghost use Rattle.dispatcher.specs.Answering.{DidAll, DidOne, DoneAll};
 
 use crate::answers::Answered;
-use bson_values::{List, Room};
+use crate::telling::BEFORE;
+use bson_values::{List, Room, Value};
 use case_tables::{INTERNAL_ERROR, OUT_OF_MEMORY};
 use doc_model::{Op, OpReply};
 use doc_store::perform;
@@ -15,15 +19,52 @@ use reply_words::{ItemEnd, most_items_size, put_items_reply};
 use std::alloc::Global;
 use table_words::TableDesk;
 
-/// How many bytes of a reply stand before its document.
-const BEFORE: u64 = 21;
+/// How an update ended, by what it is replied.
+#[tactic(auto, using(crate::proofs::Ids::fits_short))]
+fn updated(matched: u64, changed: u64, upserted: Option<Value>) -> ItemEnd
+    requires { FitsId upserted }
+    ensures value { result ≡ end_of (replied.Updated matched changed upserted) }
+    ensures short { HasShortId result }
+{
+    match upserted {
+        None => ItemEnd::Done {
+            n: matched,
+            changed,
+            upserted: None,
+        },
+        Some(id) => ItemEnd::Done {
+            n: 1,
+            changed,
+            upserted: Some(id),
+        },
+    }
+}
+
+/// How an item ended that added or removed so many documents.
+fn moved(n: u64) -> ItemEnd
+    ensures { result ≡ ended.Done n 0 None }
+{
+    ItemEnd::Done {
+        n,
+        changed: 0,
+        upserted: None,
+    }
+}
 
 /// How an item ended that was replied so.
 fn end_of(reply: OpReply) -> ItemEnd
-    ensures { result ≡ end_of reply }
+    requires { Fits reply }
+    ensures value { result ≡ end_of reply }
+    ensures short { HasShortId result }
 {
     match reply {
-        OpReply::Inserted => ItemEnd::Done { n: 1 },
+        OpReply::Inserted => moved(1),
+        OpReply::Updated {
+            matched,
+            changed,
+            upserted,
+        } => updated(matched, changed, upserted),
+        OpReply::Deleted(n) => moved(n),
         OpReply::Refused(kind) => ItemEnd::Refused(kind),
         OpReply::NoMemory => ItemEnd::Refused(OUT_OF_MEMORY),
         _ => ItemEnd::Refused(INTERNAL_ERROR),
@@ -37,7 +78,8 @@ fn fails(end: &ItemEnd) -> bool
 }
 
 /// Does one item, and says whether it failed.
-fn insert_one<T: TableDesk>(
+#[tactic(auto, using(crate::proofs::Ids::short_more))]
+fn write_one<T: TableDesk>(
     alloc: Global,
     tables: &mut T,
     who: &mut Who,
@@ -53,6 +95,7 @@ fn insert_one<T: TableDesk>(
     ensures opening { T.opening tables.new ≡ T.opening tables.old }
     ensures first { T.first tables.new ≡ T.first tables.old }
     ensures spare { ends.new.spare + 1 ≡ ends.old.spare }
+    ensures short { AreShort ends.old.items → AreShort ends.new.items }
     ensures did { (one : Replied) × DidOne (T.opening tables.old) (T.at tables.old) (T.at tables.new) who.old who.new now op
         ends.old.items ends.new.items result one }
 {
@@ -64,7 +107,7 @@ fn insert_one<T: TableDesk>(
 }
 
 /// Does the items one after another. An ordered write stops after the first that failed.
-fn insert_all<T: TableDesk>(
+fn write_all<T: TableDesk>(
     alloc: Global,
     tables: &mut T,
     who: &mut Who,
@@ -82,26 +125,28 @@ fn insert_all<T: TableDesk>(
     ensures free { T.held tables.new ≡ false }
     ensures opening { T.opening tables.new ≡ T.opening tables.old }
     ensures first { T.first tables.new ≡ T.first tables.old }
+    ensures short { AreShort ends.new.items }
     ensures did { (replies : Seq Replied) × DidAll (T.opening tables.old) (T.at tables.old) (T.at tables.new) who.old who.new now
         ordered ops ends.new.items replies }
 {
     for op in ops.into_vec() {
-        let failed = insert_one(alloc, tables, who, now, op, ends);
+        let failed = write_one(alloc, tables, who, now, op, ends);
         if ordered && failed {
             return;
         }
     }
 }
 
-/// Inserts documents, and tells of each that was not inserted. All memory that this takes is had first: once a document is stored,
-/// nothing may fail.
-pub(crate) fn insert<T: TableDesk>(
+/// Does the items of an insert, an update or a delete, and tells of each that failed. All memory that the reply takes is had first: once a
+/// document is changed, nothing may fail.
+pub(crate) fn write<T: TableDesk>(
     alloc: Global,
     tables: &mut T,
     who: &mut Who,
     now: u64,
     number: i32,
     request: i32,
+    update: bool,
     ops: List<Op>,
     ordered: bool,
 ) -> Answered
@@ -112,18 +157,18 @@ pub(crate) fn insert<T: TableDesk>(
     ensures free { T.held tables.new ≡ false }
     ensures opening { T.opening tables.new ≡ T.opening tables.old }
     ensures first { T.first tables.new ≡ T.first tables.old }
-    ensures done { (replies : Seq Replied) × DoneBy (T.opening tables.old) (T.at tables.old) (T.at tables.new) who.old who.new now
-        number request (command.Insert ops ordered) replies result }
+    ensures done { (replies : Seq Replied) × DoneAll (T.opening tables.old) (T.at tables.old) (T.at tables.new) who.old who.new now
+        number request update ops ordered replies result }
 {
     let items = ops.len() as u64;
     let Ok(mut ends) = Room::new(alloc, items) else {
         who.op += 1;
         return Answered::NoMemory;
     };
-    let Ok(room) = Room::new(alloc, BEFORE + most_items_size(items)) else {
+    let Ok(room) = Room::new(alloc, BEFORE + most_items_size(update, items)) else {
         who.op += 1;
         return Answered::NoMemory;
     };
-    insert_all(alloc, tables, who, now, ops, ordered, &mut ends);
-    Answered::Whole(put_items_reply(number, request, ends.items(), room))
+    write_all(alloc, tables, who, now, ops, ordered, &mut ends);
+    Answered::Whole(put_items_reply(number, request, update, ends.items(), room))
 }

@@ -52,7 +52,7 @@ docs-created space doc (d ∷ ds) absent = cases (same_space space d.space) refl
     cases false e rest = rw e (rest (rw e at absent))
 
 -- every other space has the documents that it had
-others-put : (space other : Space) (docs : List Doc) (cs : List Collection) → same_space other space ≡ false
+pub others-put : (space other : Space) (docs : List Doc) (cs : List Collection) → same_space other space ≡ false
     → docs_in (collection_of other (with_docs space docs cs)) ≡ docs_in (collection_of other cs)
 others-put space other docs [] apart = refl
 others-put space other docs (d ∷ ds) apart = cases (same_space space d.space) refl (others-put space other docs ds apart)
@@ -88,82 +88,68 @@ pub record Landed (space : Space) (doc : Doc) (s t : Store) : Type 0 where
   pub last : docs_of space t ≡ docs_of space s ++ doc ∷ []
   pub others : (other : Space) → same_space other space ≡ false → docs_of other t ≡ docs_of other s
 
--- the reply is a refusal and the store is as it was, or the document went in
-abbrev pub Came : OpReply → Space → Doc → Store → Store → Type 0
-Came reply space doc s t = (((kind : ℕ) × (reply ≡ Refused kind)) × (t ≡ s)) ⊎ Landed space doc s t
+-- the reply is a refusal and the store is as it was, or it is what was to be said and the document went in
+abbrev pub Came : OpReply → OpReply → Space → Doc → Store → Store → Type 0
+Came said reply space doc s t = (((kind : ℕ) × (reply ≡ Refused kind)) × (t ≡ s)) ⊎ ((reply ≡ said) × Landed space doc s t)
 
 -- a refusal
-came-refused : (reply : OpReply) (space : Space) (doc : Doc) (s t : Store) (kind : ℕ)
-    → record { reply = reply; store = t } ≡ same (Refused kind) s → Came reply space doc s t
-came-refused reply space doc s t kind is = inl ((kind, ap (λ (m : Meant). m.reply) is), ap (λ (m : Meant). m.store) is)
+came-refused : (said reply : OpReply) (space : Space) (doc : Doc) (s t : Store) (kind : ℕ)
+    → record { reply = reply; store = t } ≡ same (Refused kind) s → Came said reply space doc s t
+came-refused said reply space doc s t kind is = inl ((kind, ap (λ (m : Meant). m.reply) is), ap (λ (m : Meant). m.store) is)
 
-came : (reply : OpReply) (space : Space) (doc : Doc) (s t : Store) (found : Option Collection) → collection_of space s.collections ≡ found
-    → record { reply = reply; store = t } ≡ inserted space doc s found → Came reply space doc s t
-came reply space doc s t (Some c) found is = cases (has_id doc c.docs) refl (are_spent 1 s) refl
+came : (said reply : OpReply) (space : Space) (doc : Doc) (s t : Store) (found : Option Collection)
+    → collection_of space s.collections ≡ found → record { reply = reply; store = t } ≡ inserted said space doc s found
+    → Came said reply space doc s t
+came said reply space doc s t (Some c) found is = cases (has_id doc c.docs) refl (are_spent 1 s) refl
   where
-    cases : (twice : Bool) → has_id doc c.docs ≡ twice → (spent : Bool) → are_spent 1 s ≡ spent → Came reply space doc s t
-    cases true there spent q = came-refused reply space doc s t 31 (rw there at is)
-    cases false there true q = came-refused reply space doc s t 33 (rw q at (rw there at is))
+    cases : (twice : Bool) → has_id doc c.docs ≡ twice → (spent : Bool) → are_spent 1 s ≡ spent → Came said reply space doc s t
+    cases true there spent q = came-refused said reply space doc s t 31 (rw there at is)
+    cases false there true q = came-refused said reply space doc s t 33 (rw q at (rw there at is))
     cases false there false q =
         let done = rw q at (rw there at is) in
         let after = ap (λ (m : Meant). m.store.collections) done in
         let before = ap docs_in found in
         let longer : List Doc = c.docs ++ doc ∷ [] in
-        inr record {
-          new = subst (λ (ds : List Doc). has_id doc ds ≡ false) (sym before) there;
-          last = ap (λ (cs : List Collection). docs_in (collection_of space cs)) after ∙ docs-put space longer s.collections c found
-              ∙ ap (λ (ds : List Doc). ds ++ doc ∷ []) (sym before);
-          others = λ other apart. ap (λ (cs : List Collection). docs_in (collection_of other cs)) after
-              ∙ others-put space other longer s.collections apart;
-        }
-came reply space doc s t None found is = cases (is_full s) refl (are_spent 2 s) refl
+        inr (
+          ap (λ (m : Meant). m.reply) done,
+          record {
+            new = subst (λ (ds : List Doc). has_id doc ds ≡ false) (sym before) there;
+            last = ap (λ (cs : List Collection). docs_in (collection_of space cs)) after ∙ docs-put space longer s.collections c found
+                ∙ ap (λ (ds : List Doc). ds ++ doc ∷ []) (sym before);
+            others = λ other apart. ap (λ (cs : List Collection). docs_in (collection_of other cs)) after
+                ∙ others-put space other longer s.collections apart;
+          },
+        )
+came said reply space doc s t None found is = cases (is_full s) refl (are_spent 2 s) refl
   where
-    cases : (full : Bool) → is_full s ≡ full → (spent : Bool) → are_spent 2 s ≡ spent → Came reply space doc s t
-    cases true full spent q = came-refused reply space doc s t 34 (rw full at is)
-    cases false full true q = came-refused reply space doc s t 33 (rw q at (rw full at is))
+    cases : (full : Bool) → is_full s ≡ full → (spent : Bool) → are_spent 2 s ≡ spent → Came said reply space doc s t
+    cases true full spent q = came-refused said reply space doc s t 34 (rw full at is)
+    cases false full true q = came-refused said reply space doc s t 33 (rw q at (rw full at is))
     cases false full false q =
         let done = rw q at (rw full at is) in
         let after = ap (λ (m : Meant). m.store.collections) done in
         let before = ap docs_in found in
-        inr record {
-          new = subst (λ (ds : List Doc). has_id doc ds ≡ false) (sym before) refl;
-          last = ap (λ (cs : List Collection). docs_in (collection_of space cs)) after ∙ docs-created space doc s.collections found
-              ∙ ap (λ (ds : List Doc). ds ++ doc ∷ []) (sym before);
-          others = λ other apart. ap (λ (cs : List Collection). docs_in (collection_of other cs)) after
-              ∙ others-created space other doc s.collections apart;
-        }
+        inr (
+          ap (λ (m : Meant). m.reply) done,
+          record {
+            new = subst (λ (ds : List Doc). has_id doc ds ≡ false) (sym before) refl;
+            last = ap (λ (cs : List Collection). docs_in (collection_of space cs)) after ∙ docs-created space doc s.collections found
+                ∙ ap (λ (ds : List Doc). ds ++ doc ∷ []) (sym before);
+            others = λ other apart. ap (λ (cs : List Collection). docs_in (collection_of other cs)) after
+                ∙ others-created space other doc s.collections apart;
+          },
+        )
 
--- an insert is refused, and changes nothing, or the document went in
-pub insert-came : (reply : OpReply) (space : Space) (doc : Doc) (s t : Store) (kind : Option ℕ)
-    → record { reply = reply; store = t } ≡ by_kind kind s (inserted space doc s (collection_of space s.collections))
-    → Came reply space doc s t
-insert-came reply space doc s t (Some kind) is = came-refused reply space doc s t kind is
-insert-came reply space doc s t None is = came reply space doc s t (collection_of space s.collections) refl is
+-- an insertion is refused, and changes nothing, or the document went in
+pub insert-came : (said reply : OpReply) (space : Space) (doc : Doc) (s t : Store) (kind : Option ℕ)
+    → record { reply = reply; store = t } ≡ by_kind kind s (inserted said space doc s (collection_of space s.collections))
+    → Came said reply space doc s t
+insert-came said reply space doc s t (Some kind) is = came-refused said reply space doc s t kind is
+insert-came said reply space doc s t None is = came said reply space doc s t (collection_of space s.collections) refl is
 
 -- one that is replied `Inserted` went in
 pub insert-landed : (space : Space) (doc : Doc) (s t : Store) (kind : Option ℕ)
-    → record { reply = Inserted; store = t } ≡ by_kind kind s (inserted space doc s (collection_of space s.collections))
+    → record { reply = Inserted; store = t } ≡ by_kind kind s (inserted Inserted space doc s (collection_of space s.collections))
     → Landed space doc s t
 insert-landed space doc s t kind is =
-    ⊎_elim (λ refused. let kind = refused.0.1 in absurd cc) (λ landed. landed) (insert-came Inserted space doc s t kind is)
-
--- a refused insert changes nothing
-went : (space : Space) (doc : Doc) (s t : Store) (kind : ℕ) (found : Option Collection)
-    → record { reply = Refused kind; store = t } ≡ inserted space doc s found → t ≡ s
-went space doc s t kind (Some c) is = cases (has_id doc c.docs) refl (are_spent 1 s) refl
-  where
-    cases : (twice : Bool) → has_id doc c.docs ≡ twice → (spent : Bool) → are_spent 1 s ≡ spent → t ≡ s
-    cases true there spent q = ap (λ (m : Meant). m.store) (rw there at is)
-    cases false there true q = ap (λ (m : Meant). m.store) (rw q at (rw there at is))
-    cases false there false q = absurd cc (ap (λ (m : Meant). m.reply) (rw q at (rw there at is)))
-went space doc s t kind None is = cases (is_full s) refl (are_spent 2 s) refl
-  where
-    cases : (full : Bool) → is_full s ≡ full → (spent : Bool) → are_spent 2 s ≡ spent → t ≡ s
-    cases true full spent q = ap (λ (m : Meant). m.store) (rw full at is)
-    cases false full true q = ap (λ (m : Meant). m.store) (rw q at (rw full at is))
-    cases false full false q = absurd cc (ap (λ (m : Meant). m.reply) (rw q at (rw full at is)))
-
-pub insert-refused : (kind : ℕ) (space : Space) (doc : Doc) (s t : Store) (words : Option ℕ)
-    → record { reply = Refused kind; store = t } ≡ by_kind words s (inserted space doc s (collection_of space s.collections)) → t ≡ s
-insert-refused kind space doc s t (Some word) is = ap (λ (m : Meant). m.store) is
-insert-refused kind space doc s t None is = went space doc s t kind (collection_of space s.collections) is
+    ⊎_elim (λ refused. let kind = refused.0.1 in absurd cc) (λ landed. landed.1) (insert-came Inserted Inserted space doc s t kind is)

@@ -1,4 +1,6 @@
 pub mod Runs
 pub mod Inserts
-pub mod Refusals
+pub mod Effects
+pub mod Turned
+pub mod Own
 pub mod Ids

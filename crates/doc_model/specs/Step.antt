@@ -1,5 +1,6 @@
 -- One operation on the store.
-use Rattle.std.specs.Prelude.{ℕ, ◌≡◌, ◌+◌, ◌-◌, ◌^◌, ◌==◌, Bool, if◌then◌else◌, nat_le, nat_lt, List, [], ◌∷◌, ◌++◌, length, take, drop, Option, None, Some}
+use Rattle.std.specs.Prelude.{ℕ, ◌≡◌, ◌+◌, ◌-◌, ◌^◌, ◌==◌, Bool, if◌then◌else◌, nat_le, nat_lt, true, false}
+use Rattle.std.specs.Prelude.{List, [], ◌∷◌, ◌++◌, length, take, drop, Option, None, Some, Result, Ok, Err}
 use Rattle.std.specs.List.{filter}
 use Rattle.history_lock.specs.declared.entry.Who.{Who}
 use Rattle.bson_values.specs.declared.space.Space.{Space}
@@ -10,9 +11,11 @@ use Rattle.distinct_values.specs.Distinct.{distinct}
 use Rattle.filter_syntax.specs.Meaning.{Doc, holds}
 use Rattle.filter_syntax.specs.declared.filter.Filter.{Filter}
 use Rattle.doc_model.specs.declared.op.Op.{Op}
-use Rattle.doc_model.specs.declared.op.Op.TheVariants.{Insert, Find, Count, Distinct}
+use Rattle.doc_model.specs.declared.op.Op.TheVariants.{Insert, Find, Count, Distinct, Update, Delete, FindAndModify}
 use Rattle.doc_model.specs.declared.op.OpReply.{OpReply}
-use Rattle.doc_model.specs.declared.op.OpReply.TheVariants.{Inserted, Selected, Counted, Values, Refused, Fault, NoMemory}
+use Rattle.doc_model.specs.declared.op.OpReply.TheVariants.{Inserted, Selected, Counted, Values, Updated, Deleted, Modified}
+use Rattle.doc_model.specs.declared.op.OpReply.TheVariants.{Refused, Fault, NoMemory}
+use Rattle.doc_model.specs.Change.{Effect, exchanged, without_any, updates, deletes, modifies}
 use Rattle.doc_model.specs.Insert.{id_of, completed, not_stored}
 use Rattle.doc_model.specs.Store.{Store, Collection, collection_of, docs_of, has_id, with_docs}
 
@@ -43,19 +46,41 @@ abbrev pub by_kind : Option ℕ → Store → Meant → Meant
 by_kind (Some kind) s done = same (Refused kind) s
 by_kind None s done = done
 
--- an insert that went in; the collection takes a number, and so does the change
-abbrev pub added : Space → Doc → Store → Collection → Meant
-added space doc s c =
-    record { reply = Inserted; store = record { collections = with_docs space (c.docs ++ doc ∷ []) s.collections; next = s.next + 1 } }
+-- a document that went in, with what that is replied; the collection takes a number, and so does the change
+abbrev pub added : OpReply → Space → Doc → Store → Collection → Meant
+added reply space doc s c =
+    record { reply = reply; store = record { collections = with_docs space (c.docs ++ doc ∷ []) s.collections; next = s.next + 1 } }
 
-abbrev pub created : Space → Doc → Store → Meant
-created space doc s =
-    record { reply = Inserted; store = record { collections = s.collections ++ record { space = space; docs = doc ∷ [] } ∷ []; next = s.next + 2 } }
+abbrev pub created : OpReply → Space → Doc → Store → Meant
+created reply space doc s =
+    let opened : Collection = record { space = space; docs = doc ∷ [] } in
+    record { reply = reply; store = record { collections = s.collections ++ opened ∷ []; next = s.next + 2 } }
 
--- an insert of a document with its `_id` first: kind 31 where that is taken, 34 where a collection is one too many, 33 where numbers end
-abbrev pub inserted : Space → Doc → Store → Option Collection → Meant
-inserted space doc s (Some c) = refused s ((has_id doc c.docs, 31) ∷ (are_spent 1 s, 33) ∷ []) (added space doc s c)
-inserted space doc s None = refused s ((is_full s, 34) ∷ (are_spent 2 s, 33) ∷ []) (created space doc s)
+-- one with its `_id` first goes in: kind 31 where that is taken, 34 where a collection is one too many, 33 where numbers end
+abbrev pub inserted : OpReply → Space → Doc → Store → Option Collection → Meant
+inserted reply space doc s (Some c) = refused s ((has_id doc c.docs, 31) ∷ (are_spent 1 s, 33) ∷ []) (added reply space doc s c)
+inserted reply space doc s None = refused s ((is_full s, 34) ∷ (are_spent 2 s, 33) ∷ []) (created reply space doc s)
+
+-- the documents of a collection became these, which takes a number
+abbrev pub changed : OpReply → Space → List Doc → Store → Meant
+changed reply space docs s = refused s ((are_spent 1 s, 33) ∷ [])
+    (record { reply = reply; store = record { collections = with_docs space docs s.collections; next = s.next + 1 } })
+
+-- there is none
+abbrev pub is_none_of : List Doc → Bool
+is_none_of [] = true
+is_none_of docs = false
+
+-- an effect on a collection; without one nothing takes a number
+abbrev pub effected : Space → Store → Effect → Option Doc → Meant
+effected space s effect (Some doc) = inserted effect.reply space doc s (collection_of space s.collections)
+effected space s effect None =
+    if is_none_of (effect.gone ++ effect.renewed) then same effect.reply s
+    else changed effect.reply space (exchanged effect.renewed (without_any effect.gone (docs_of space s))) s
+
+abbrev pub by_effect : Space → Store → Result Effect ℕ → Meant
+by_effect space s (Ok effect) = effected space s effect effect.added
+by_effect space s (Err kind) = same (Refused kind) s
 
 -- the documents that a filter holds of, in order
 abbrev pub matching : Filter → List Doc → List Doc
@@ -78,10 +103,15 @@ refused_by_words who now op = None
 abbrev pub meant : Who → ℕ → Op → Store → Meant
 meant who now (Insert space doc) s =
     by_kind (refused_by_words who now (Insert space doc)) s
-    (inserted space (completed who now doc) s (collection_of space s.collections))
+    (inserted Inserted space (completed who now doc) s (collection_of space s.collections))
 meant who now (Find space query) s = same (Selected (matching query.filter (docs_of space s))) s
 meant who now (Count space it skip limit) s = same (Counted (length (limited skip limit (matching it (docs_of space s))))) s
 meant who now (Distinct space path it) s = same (valued (distinct path (matching it (docs_of space s)))) s
+meant who now (Update space it update multi upsert) s =
+    by_effect space s (updates who now it update multi upsert (matching it (docs_of space s)))
+meant who now (Delete space it one) s = by_effect space s (Ok (deletes one (matching it (docs_of space s))))
+meant who now (FindAndModify space it change fresh upsert) s =
+    by_effect space s (modifies who now it change fresh upsert (matching it (docs_of space s)))
 
 -- one step: that, or want of memory or a fault, which change nothing
 abbrev pub step : Who → ℕ → Op → Store → OpReply → Store → Type 0
@@ -92,4 +122,7 @@ step who now op before reply after = record { reply = reply; store = after } ≡
 -- a reply that leaves the documents
 abbrev pub Keeps : OpReply → Type 0
 Keeps Inserted = ⊥
+Keeps (Updated matched changed upserted) = ⊥
+Keeps (Deleted n) = ⊥
+Keeps (Modified existed upserted value) = ⊥
 Keeps reply = Unit {0}

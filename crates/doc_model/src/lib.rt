@@ -5,7 +5,8 @@ mod laws;
 mod op;
 
 pub use laws::{
-    a_refusal_changes_nothing, an_insert_leaves_other_spaces, ids_stay_distinct, runs_join,
+    a_change_of_nothing_takes_no_number, a_refusal_changes_nothing,
+    an_operation_leaves_other_spaces, ids_stay_distinct, runs_join, what_was_deleted_is_gone,
     what_was_inserted_is_found,
 };
-pub use op::{Op, OpReply, Query};
+pub use op::{Modify, Op, OpReply, Query};

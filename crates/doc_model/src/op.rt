@@ -2,11 +2,19 @@ use bson_values::{Document, List, Space, Value};
 use case_tables::Kind;
 use doc_paths::Path;
 use filter_syntax::Filter;
+use update_syntax::Update;
 
 /// Which documents of a collection are shown.
 #[derive(Drop)]
 pub struct Query {
     pub filter: Filter,
+}
+
+/// What is done to the document that is found and told.
+#[derive(Drop)]
+pub enum Modify {
+    Remove,
+    Change(Update),
 }
 
 /// What is asked of the store. It carries all that its meaning depends on, beside the store, the asker and the moment.
@@ -35,6 +43,30 @@ pub enum Op {
         path: Path,
         filter: Filter,
     },
+    /// To change the first document that a filter holds of, or all with `multi`: each of them, or none. With `upsert` a document is built
+    /// and inserted where the filter holds of none.
+    Update {
+        space: Space,
+        filter: Filter,
+        update: Update,
+        multi: bool,
+        upsert: bool,
+    },
+    /// To remove the documents that a filter holds of, or the first of them alone.
+    Delete {
+        space: Space,
+        filter: Filter,
+        one: bool,
+    },
+    /// To remove or change the first document that a filter holds of, and to show it as it was, or as it is then with `fresh`. With
+    /// `upsert` a document is built and inserted where the filter holds of none. `fresh` and `upsert` say nothing of a removal.
+    FindAndModify {
+        space: Space,
+        filter: Filter,
+        change: Modify,
+        fresh: bool,
+        upsert: bool,
+    },
 }
 
 /// What the store replies.
@@ -47,6 +79,20 @@ pub enum OpReply {
     Counted(u64),
     /// The values that were asked for, in the order in which they stand first. As an array of BSON 1.1 they have at most 16,777,216 bytes.
     Values(List<Value>),
+    /// So many documents the filter held of, so many of them are no longer what they were, and this is the `_id` of one that was inserted.
+    Updated {
+        matched: u64,
+        changed: u64,
+        upserted: Option<Value>,
+    },
+    /// So many documents were removed.
+    Deleted(u64),
+    /// Whether the filter held of a document, the `_id` of one that was inserted, and the document that is shown.
+    Modified {
+        existed: bool,
+        upserted: Option<Value>,
+        value: Option<Document>,
+    },
     /// Nothing was done, for this reason.
     Refused(Kind),
     /// Nothing was done: the change could not be kept.

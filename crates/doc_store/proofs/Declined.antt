@@ -2,7 +2,7 @@
 use Rattle.std.proofs.Common.{◌≡◌, ◌⊎◌, inl, inr, ℕ, refl}
 use Rattle.std.specs.Prelude.{Option, Some}
 use Rattle.doc_model.specs.declared.op.OpReply.{OpReply}
-use Rattle.doc_model.specs.declared.op.OpReply.TheVariants.{Inserted, Selected, Counted, Values, Refused, Fault, NoMemory}
+use Rattle.doc_model.specs.declared.op.OpReply.TheVariants.{Inserted, Selected, Counted, Values, Updated, Deleted, Modified, Refused, Fault, NoMemory}
 use Rattle.doc_store.specs.Replies.{Declines}
 
 pub declined : (words : Option ℕ) (reply : OpReply) → Declines words reply
@@ -14,3 +14,6 @@ declined words (Selected docs) is = absurd is
 declined words (Counted n) is = absurd is
 declined words (Values values) is = absurd is
 declined words Fault is = absurd is
+declined words (Updated matched changed upserted) is = absurd is
+declined words (Deleted n) is = absurd is
+declined words (Modified existed upserted value) is = absurd is

@@ -98,7 +98,7 @@ abbrev pub Law : Type 0
 Law = (all : List push.Kept) → All push.IsSound all → (it : Filter)
     → push.matching it (push.docs_of (push.selected it all)) ≡ push.matching it (push.docs_of all)
 
-found-selected : Law → (it : Filter) (next : ℕ) (ps : List Placed) → SoundRows next ps
+pub found-selected : Law → (it : Filter) (next : ℕ) (ps : List Placed) → SoundRows next ps
     → matching it (docs_in_rows (selected (cond it) ps)) ≡ matching it (docs_at ps)
 found-selected law it next ps sound =
     ap (matching it) (sym (selected-kept it ps)) ∙ law (map kept_of ps) (all-kept next ps sound) it ∙ ap (matching it) (docs-kept ps)
@@ -113,11 +113,11 @@ selected-sound next by (p ∷ ps) sound = cases (met by p.row.key p.row.json) re
     cases true e rest = rw e (sound.0, rest)
     cases false e rest = rw e rest
 
-live-rows : (s : Tables) (space : Space) (t : Table) → Sound s → named space s.live ≡ Some t → SoundRows s.next t.rows
+pub live-rows : (s : Tables) (space : Space) (t : Table) → Sound s → named space s.live ≡ Some t → SoundRows s.next t.rows
 live-rows s space t sound at =
     (sound-found s.next t.number t s.live sound.tables (numbered-named s.next space t s.live sound.tables at)).rows
 
-unkept : (s : Tables) (by : Cond) (o : Option Table) → is_kept (selects by reply.Absent s o).reply ≡ true → ⊥
+pub unkept : (s : Tables) (by : Cond) (o : Option Table) → is_kept (selects by reply.Absent s o).reply ≡ true → ⊥
 unkept s by None e = cc
 unkept s by (Some t) e = cc
 
@@ -154,7 +154,10 @@ never-fault (aim.Values path) docs e = cases (nat_le (value_size (Arr (distinct 
 either-way : (answer wanted : OpReply) → Answers answer wanted → (answer ≡ told.NoMemory) ⊎ (answer ≡ wanted)
 either-way told.NoMemory wanted is = inl refl
 either-way told.Inserted wanted is = inr is
-either-way (told.Selected docs) wanted is = inr is
+either-way (told.Selected found) wanted is = inr is
+either-way (told.Updated matched changed upserted) wanted is = inr is
+either-way (told.Deleted n) wanted is = inr is
+either-way (told.Modified existed upserted value) wanted is = inr is
 either-way (told.Counted n) wanted is = inr is
 either-way (told.Values values) wanted is = inr is
 either-way (told.Refused kind) wanted is = inr is

@@ -1,7 +1,7 @@
 -- What the table calls of an operation carry.
-use Rattle.std.specs.Prelude.{ℕ, ◌≡◌, ◌+◌, Bool, true, List, [], ◌∷◌, ◌++◌, Option, Some, None, option_map}
+use Rattle.std.specs.Prelude.{ℕ, ◌≡◌, ◌+◌, Bool, true, List, [], ◌∷◌, ◌++◌, length, Option, Some, None, option_map}
 use Rattle.filter_syntax.specs.declared.filter.Filter.{Filter}
-use Rattle.history_lock.specs.Places.{is_own}
+use Rattle.history_lock.specs.Places.{is_own, Within}
 use Rattle.pushdown.specs.Pushed.{cond}
 use Rattle.doc_model.specs.declared.op.Op.{Op}
 use Rattle.doc_model.specs.declared.op.Op.TheVariants as op
@@ -16,6 +16,9 @@ filter_of (op.Insert space doc) = None
 filter_of (op.Find space query) = Some query.filter
 filter_of (op.Count space it skip limit) = Some it
 filter_of (op.Distinct space path it) = Some it
+filter_of (op.Update space it update multi upsert) = Some it
+filter_of (op.Delete space it one) = Some it
+filter_of (op.FindAndModify space it change fresh upsert) = Some it
 
 -- a call that selects carries exactly the condition of the operation's filter
 abbrev pub Carries : Op → TableCall → Type 0
@@ -30,6 +33,9 @@ CarryAt mine by i (e ∷ es) = (mine i ≡ true → Carries by e.call) × CarryA
 
 -- and so do the calls that an operation added to its seat's own
 pub record Carried (by : Op) (old new : Views) : Type 0 where
+  pub more : List Tcall
   pub places : List ℕ
+  pub seen : new.seen ≡ old.seen ++ more
   pub own : new.own ≡ old.own ++ places
+  pub within : Within (is_own places) (length new.seen)
   pub carry : CarryAt (is_own places) by 0 new.seen

@@ -48,7 +48,11 @@ fn document_of(alloc: Global, row: &Row) -> Result<Document, NoMemory>
 }
 
 /// The document of a sound row, where the filter holds of it.
-fn wanted(alloc: Global, filter: &Filter, row: &Row) -> Result<Option<Document>, NoMemory>
+pub(crate) fn wanted(
+    alloc: Global,
+    filter: &Filter,
+    row: &Row,
+) -> Result<Option<Document>, NoMemory>
     requires { IsSound row.now }
     ensures value { IfOk result (λ found. option_to_list found ≡ matching filter.now (doc_of row.now ∷ [])) }
     ensures plain { IfOk result (λ found. IfSome found (λ doc. IsPlain (value.Doc doc))) }

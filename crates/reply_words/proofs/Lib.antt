@@ -1,6 +1,7 @@
 pub mod Named
-pub mod Errors
+pub mod Listed
 pub mod Fitting
 pub mod Appended
 pub mod Ended
 pub mod Totals
+pub mod Shown

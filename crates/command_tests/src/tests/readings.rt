@@ -1,7 +1,7 @@
 use super::messages::{Words, message};
-use bson_values::{Document, Space, Value};
+use bson_values::{Document, List, Space, Value};
 use command_words::Command;
-use doc_model::Op;
+use doc_model::{Modify, Op};
 use std::alloc::Global;
 use std::test::Fail;
 
@@ -11,8 +11,22 @@ enum Asked {
     Ping,
     /// An insert of a document with this `_id` alone.
     Insert(i64),
+    Update {
+        multi: bool,
+        upsert: bool,
+    },
+    /// A delete, of the first document alone.
+    Delete(bool),
+    FindAndModify {
+        removes: bool,
+        fresh: bool,
+        upsert: bool,
+    },
     Find,
-    Count { skip: u64, limit: u64 },
+    Count {
+        skip: u64,
+        limit: u64,
+    },
     /// The distinct values at a path of so many parts.
     Distinct(usize),
     Other,
@@ -33,6 +47,27 @@ fn is_on(space: &Space) -> bool {
 fn done(op: &Op) -> Asked {
     match op {
         Op::Insert { space, doc } if is_on(space) => id_of(doc),
+        Op::Update {
+            space,
+            multi,
+            upsert,
+            ..
+        } if is_on(space) => Asked::Update {
+            multi: *multi,
+            upsert: *upsert,
+        },
+        Op::Delete { space, one, .. } if is_on(space) => Asked::Delete(*one),
+        Op::FindAndModify {
+            space,
+            change,
+            fresh,
+            upsert,
+            ..
+        } if is_on(space) => Asked::FindAndModify {
+            removes: matches!(change, Modify::Remove),
+            fresh: *fresh,
+            upsert: *upsert,
+        },
         Op::Find { space, .. } if is_on(space) => Asked::Find,
         Op::Count {
             space,
@@ -48,13 +83,21 @@ fn done(op: &Op) -> Asked {
     }
 }
 
+/// What the one operation asks.
+fn only(ops: &List<Op>) -> Asked {
+    match ops.as_slice() {
+        [op] => done(op),
+        _ => Asked::Other,
+    }
+}
+
 fn command_asks(command: &Command) -> Asked {
     match command {
         Command::Ping => Asked::Ping,
-        Command::Insert { ops, .. } => match ops.as_slice() {
-            [op] => done(op),
-            _ => Asked::Other,
-        },
+        Command::Insert { ops, .. } => only(ops),
+        Command::Update { ops, .. } => only(ops),
+        Command::Delete { ops, .. } => only(ops),
+        Command::FindAndModify { op } => done(op),
         Command::Find { op } => done(op),
         Command::Count { op } => done(op),
         Command::Distinct { op } => done(op),
@@ -69,7 +112,7 @@ fn meant(alloc: Global, words: Words) -> Option<Asked> {
 }
 
 /// Messages, and what they mean.
-static ACCEPTED: [(Words, Asked); 12] = [
+static ACCEPTED: [(Words, Asked); 20] = [
     (
         (r#"{insert: "c", documents: [{_id: 1}], $db: "t"}"#, "{}"),
         Asked::Insert(1),
@@ -84,6 +127,84 @@ static ACCEPTED: [(Words, Asked); 12] = [
             "{}",
         ),
         Asked::Insert(5_000_000_000),
+    ),
+    (
+        (
+            r#"{update: "c", updates: [{q: {}, u: {a: 1}, upsert: 1}], $db: "t"}"#,
+            "{}",
+        ),
+        Asked::Update {
+            multi: false,
+            upsert: true,
+        },
+    ),
+    (
+        (
+            r#"{update: "c", $db: "t"}"#,
+            "{updates: [{q: {}, u: {a: 1}, upsert: 1}]}",
+        ),
+        Asked::Update {
+            multi: false,
+            upsert: true,
+        },
+    ),
+    // The first field of a name counts.
+    (
+        (
+            r#"{update: "c", $db: "t"}"#,
+            "{updates: [{q: {}, u: {$set: {a: 1}}, multi: true, multi: false}]}",
+        ),
+        Asked::Update {
+            multi: true,
+            upsert: false,
+        },
+    ),
+    (
+        (
+            r#"{delete: "c", deletes: [{q: {}, limit: 0}], $db: "t"}"#,
+            "{}",
+        ),
+        Asked::Delete(false),
+    ),
+    (
+        (
+            r#"{delete: "c", $db: "t"}"#,
+            "{deletes: [{q: {}, limit: 1L}]}",
+        ),
+        Asked::Delete(true),
+    ),
+    (
+        (
+            r#"{findAndModify: "c", query: {a: 1}, remove: true, new: false, $db: "t"}"#,
+            "{}",
+        ),
+        Asked::FindAndModify {
+            removes: true,
+            fresh: false,
+            upsert: false,
+        },
+    ),
+    (
+        (
+            r#"{findandmodify: "c", update: {a: 1}, new: true, $db: "t"}"#,
+            "{}",
+        ),
+        Asked::FindAndModify {
+            removes: false,
+            fresh: true,
+            upsert: false,
+        },
+    ),
+    (
+        (
+            r#"{findAndModify: "c", update: {$inc: {a: 1}}, remove: 0, upsert: 1, $db: "t"}"#,
+            "{}",
+        ),
+        Asked::FindAndModify {
+            removes: false,
+            fresh: false,
+            upsert: true,
+        },
     ),
     ((r#"{find: "c", $db: "t"}"#, "{}"), Asked::Find),
     ((r#"{find: "c", filter: {}, $db: "t"}"#, "{}"), Asked::Find),

@@ -8,6 +8,10 @@ use std::test::Fail;
 
 const INSERT: &str = r#"{insert: "c", $db: "t"}"#;
 
+const UPDATE: &str = r#"{update: "c", $db: "t"}"#;
+
+const DELETE: &str = r#"{delete: "c", $db: "t"}"#;
+
 const FIND: &str = r#"{find: "c", $db: "t"}"#;
 
 const PING: &str = r#"{ping: 1, $db: "admin"}"#;
@@ -106,6 +110,168 @@ static FORMS: Rows = &[
     ),
 ];
 
+/// Updates and deletes, whose items are looked into one after another.
+static ITEMS: Rows = &[
+    ((UPDATE, "{}"), 14),
+    ((UPDATE, "{updates: []}"), 8),
+    ((UPDATE, "{updates: [{q: {}, u: {$set: {a: 1}}}]}"), 0),
+    ((r#"{update: "c", updates: [1], $db: "t"}"#, "{}"), 17),
+    ((r#"{update: "c", updates: {}, $db: "t"}"#, "{}"), 17),
+    ((UPDATE, "{updates: [{u: {}}]}"), 14),
+    ((UPDATE, "{updates: [{q: {}}]}"), 14),
+    ((UPDATE, "{updates: [{q: 1, u: {}}]}"), 17),
+    ((UPDATE, "{updates: [{q: {}, u: 1}]}"), 17),
+    ((UPDATE, r#"{updates: [{q: {}, u: {}, multi: "x"}]}"#), 17),
+    ((UPDATE, "{updates: [{q: {}, u: {}, upsert: null}]}"), 17),
+    (
+        (UPDATE, "{updates: [{q: {}, u: {}, arrayFilters: []}]}"),
+        29,
+    ),
+    // What is wrong in any item goes before what is missing, and that before what is unknown.
+    ((UPDATE, "{updates: [{x: 1}, {q: 1}]}"), 17),
+    ((UPDATE, "{updates: [{q: {}, u: {}, x: 1}, {q: {}}]}"), 14),
+    ((r#"{update: "$c", $db: "t"}"#, "{updates: [{q: {}}]}"), 14),
+    (
+        (
+            r#"{update: "$c", $db: "t"}"#,
+            "{updates: [{q: {}, u: {}, x: 1}]}",
+        ),
+        27,
+    ),
+    // A name that is given twice: each is checked, the first counts.
+    ((UPDATE, "{updates: [{q: {}, q: 1, u: {}}]}"), 17),
+    ((UPDATE, "{updates: [{q: {}, q: {$foo: 1}, u: {}}]}"), 0),
+    // Filters and updates are read last, item by item.
+    (
+        (UPDATE, "{updates: [{q: {$foo: 1}, u: {}, ordered: 1}]}"),
+        29,
+    ),
+    ((UPDATE, "{updates: [{u: {$foo: {}}, q: {$foo: 1}}]}"), 3),
+    (
+        (
+            UPDATE,
+            "{updates: [{q: {}, u: {$foo: {}}}, {q: {$foo: 1}, u: {}}]}",
+        ),
+        15,
+    ),
+    ((UPDATE, "{updates: [{q: {}, u: []}]}"), 29),
+    ((UPDATE, "{updates: [{q: {}, u: {a: 1}, multi: true}]}"), 15),
+    (
+        (
+            UPDATE,
+            r#"{updates: [{q: {}, u: {$set: {a: 1, "a.b": 2}}}]}"#,
+        ),
+        22,
+    ),
+    ((DELETE, "{}"), 14),
+    ((DELETE, "{deletes: [{q: {}, limit: 1}], ordered: []}"), 17),
+    (
+        (
+            r#"{delete: "c", deletes: [{q: {}, limit: 0}, 1], $db: "t"}"#,
+            "{}",
+        ),
+        17,
+    ),
+    (
+        (
+            DELETE,
+            "{deletes: [{q: {}, limit: 0}, {q: {a: 1}, limit: 1L}]}",
+        ),
+        0,
+    ),
+    ((DELETE, "{deletes: [{q: {}, limit: 2}]}"), 8),
+    ((DELETE, "{deletes: [{q: {}, limit: -1}]}"), 8),
+    ((DELETE, "{deletes: [{q: {}, limit: true}]}"), 17),
+    ((DELETE, "{deletes: [{q: [], limit: 2}]}"), 17),
+    ((DELETE, "{deletes: [{limit: 2, q: []}]}"), 8),
+    ((DELETE, "{deletes: [{q: {}}]}"), 14),
+    ((DELETE, "{deletes: [{limit: 1}]}"), 14),
+    ((DELETE, "{deletes: [{q: {}, limit: 1, u: {}}]}"), 29),
+    ((DELETE, "{deletes: [{q: {$foo: 1}, limit: 1}]}"), 3),
+];
+
+/// What goes together in a findAndModify.
+static MODIFIES: Rows = &[
+    ((r#"{findAndModify: "c", $db: "t"}"#, "{}"), 15),
+    (
+        (r#"{findAndModify: "c", remove: false, $db: "t"}"#, "{}"),
+        15,
+    ),
+    ((r#"{findandmodify: "c", remove: 1, $db: "t"}"#, "{}"), 0),
+    (
+        (
+            r#"{findAndModify: "c", remove: true, update: {}, $db: "t"}"#,
+            "{}",
+        ),
+        15,
+    ),
+    (
+        (
+            r#"{findAndModify: "c", remove: true, new: true, $db: "t"}"#,
+            "{}",
+        ),
+        15,
+    ),
+    (
+        (
+            r#"{findAndModify: "c", remove: true, upsert: 1L, $db: "t"}"#,
+            "{}",
+        ),
+        15,
+    ),
+    (
+        (
+            r#"{findAndModify: "c", remove: true, new: false, upsert: 0, $db: "t"}"#,
+            "{}",
+        ),
+        0,
+    ),
+    ((r#"{findAndModify: "c", remove: "x", $db: "t"}"#, "{}"), 17),
+    ((r#"{findAndModify: "c", update: 1, $db: "t"}"#, "{}"), 17),
+    (
+        (r#"{findAndModify: "c", $db: "t"}"#, "{update: [{a: 1}]}"),
+        17,
+    ),
+    ((r#"{findAndModify: "$c", $db: "t"}"#, "{}"), 27),
+    (
+        (r#"{findAndModify: "c", sort: {a: 1}, $db: "t"}"#, "{}"),
+        29,
+    ),
+    (
+        (
+            r#"{findAndModify: "c", remove: true, fields: {a: 1}, $db: "t"}"#,
+            "{}",
+        ),
+        29,
+    ),
+    (
+        (
+            r#"{findandmodify: "c", findAndModify: "c", remove: true, $db: "t"}"#,
+            "{}",
+        ),
+        29,
+    ),
+    (
+        (r#"{findAndModify: "c", query: {$foo: 1}, $db: "t"}"#, "{}"),
+        15,
+    ),
+    (
+        (
+            r#"{findAndModify: "c", query: {$foo: 1}, update: [], $db: "t"}"#,
+            "{}",
+        ),
+        3,
+    ),
+    ((r#"{findAndModify: "c", update: [], $db: "t"}"#, "{}"), 29),
+    (
+        (
+            r#"{findAndModify: "c", update: {$set: {a: 1, "a.b": 2}}, $db: "t"}"#,
+            "{}",
+        ),
+        22,
+    ),
+];
+
 /// Filters, counts and keys.
 static OPERANDS: Rows = &[
     ((r#"{find: "c", filter: {a: 1}, $db: "t"}"#, "{}"), 0),
@@ -179,7 +345,7 @@ static OPERANDS: Rows = &[
 
 #[test]
 fn each_refusal_has_its_kind(rt: HostRuntime) -> Result<(), Fail> {
-    for rows in [FORMS, OPERANDS] {
+    for rows in [FORMS, ITEMS, MODIFIES, OPERANDS] {
         for ((body, beside), wanted) in rows {
             let told = kind_of(rt.alloc(), (body, beside));
             assert_eq!(rt; told, Some(*wanted), "{body} {beside}");
@@ -188,31 +354,40 @@ fn each_refusal_has_its_kind(rt: HostRuntime) -> Result<(), Fail> {
     Ok(())
 }
 
-/// An insert of so many empty documents, which come in a sequence.
-fn of_many(alloc: Global, count: u32) -> Option<Message> {
-    let mut message = message(alloc, (INSERT, "{}"))?;
+/// A command of so many empty documents, which come in a sequence of that name.
+fn of_many(alloc: Global, body: &'static str, name: &str, count: u32) -> Option<Message> {
+    let mut message = message(alloc, (body, "{}"))?;
     let mut docs = List::new(alloc);
     for _ in 0..count {
         docs.add(Document::new(alloc)).ok()?;
     }
-    let name = Text::of(alloc, "documents").ok()?;
+    let name = Text::of(alloc, name).ok()?;
     message.sequences.add(Sequence { name, docs }).ok()?;
     Some(message)
 }
 
-fn kind_of_many(alloc: Global, count: u32) -> Option<u32> {
-    let message = of_many(alloc, count)?;
+fn kind_of_many(alloc: Global, body: &'static str, name: &str, count: u32) -> Option<u32> {
+    let message = of_many(alloc, body, name, count)?;
     kind(alloc, message)
 }
 
+/// Commands, the sequence of each, and the kind by which empty documents are refused in it.
+static COUNTED: [(&str, &str, u32); 3] = [
+    (INSERT, "documents", 0),
+    (UPDATE, "updates", 14),
+    (DELETE, "deletes", 14),
+];
+
 #[test]
-fn an_insert_has_1_to_1_000_documents(rt: HostRuntime) -> Result<(), Fail> {
-    for (count, wanted) in [(0, 8), (1, 0), (1_000, 0), (1_001, 8)] {
-        assert_eq!(rt;
-            kind_of_many(rt.alloc(), count),
-            Some(wanted),
-            "{count} documents"
-        );
+fn a_command_has_1_to_1_000_items(rt: HostRuntime) -> Result<(), Fail> {
+    for (body, name, empty) in &COUNTED {
+        for (count, wanted) in [(0, 8), (1, *empty), (1_000, *empty), (1_001, 8)] {
+            assert_eq!(rt;
+                kind_of_many(rt.alloc(), body, name, count),
+                Some(wanted),
+                "{count} {name}"
+            );
+        }
     }
     Ok(())
 }

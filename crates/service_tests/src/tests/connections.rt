@@ -5,3 +5,4 @@ mod commands;
 mod keepers;
 mod queries;
 mod streams;
+mod writes;

@@ -11,7 +11,7 @@ returns-in-Err-clause-served g c = served_unlogged _ _ _ (declined _ _ c.in-Err.
 pub returns-clause-served : goal.returns-clause-served
 returns-clause-served g c =
     let called = rw c.call.ensures.opening at c.call.ensures.called in
-    rw c.insert_reply.ensures (performed _ called (λ t before after sound step.
+    rw c.added_reply.ensures (performed _ called (λ t before after sound step.
     insert-comes c.args.who c.args.now _ c.args.doc _ t _ before after sound c.in-Ok.ensures.ok.1 c.in-Ok.ensures.ok.0 step))
 
 pub returns-in-Err-clause-carries : goal.returns-in-Err-clause-carries

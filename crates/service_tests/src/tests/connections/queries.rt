@@ -10,7 +10,7 @@ use std::test::Fail;
 /// The bytes of a small document.
 fn spelled(alloc: Global, doc: &Document) -> Option<Bytes> {
     let size = doc.size();
-    if size > 10_000 {
+    if size > 40_000 {
         return None;
     }
     let mut room = Room::new(alloc, size).ok()?;
@@ -19,7 +19,7 @@ fn spelled(alloc: Global, doc: &Document) -> Option<Bytes> {
 }
 
 /// The document that the text writes, behind a header with these two numbers.
-fn message(alloc: Global, request: u8, response: u8, text: &str) -> Option<Bytes> {
+pub(super) fn message(alloc: Global, request: u8, response: u8, text: &str) -> Option<Bytes> {
     let doc = document(alloc, text)?;
     let spelled = spelled(alloc, &doc)?;
     let len = u32::try_from(spelled.len().saturating_add(21)).ok()?;

@@ -9,7 +9,7 @@ Each document has 236 bytes. Each time is the least of some runs, less that of t
 
 import sys
 
-from messages import count, distinct, document, element, find, insert, int32, person, seconds, update
+from messages import count, distinct, document, element, find, insert, int32, message, person, seconds, string, update
 
 SIZES = 1_000, 10_000
 RUNS = 3
@@ -31,6 +31,9 @@ def rates(program, size):
         ("find that 10 documents meet", find("c", element(0x10, "age", int32(7))), 1_000_000 // size),
         ("find by $gte that 10 documents meet", find("c", element(0x03, "_id", at_least(size - 10))), 100_000 // size),
         ("find of all, more than a batch", find("c"), 100_000 // size),
+        ("find of 10, no sort", page("c", element(0x10, "limit", int32(10))), 1_000_000 // size),
+        ("find of 10, sorted by age", page("c", by_age(), element(0x10, "limit", int32(10))), 100_000 // size),
+        ("find of 10 names, by a projection", page("c", names_alone(), element(0x10, "limit", int32(10))), 1_000_000 // size),
         ("count by $gte that half meet", count("c", element(0x03, "_id", at_least(size // 2))), 100_000 // size),
         ("count of all", count("c"), 100_000 // size),
         ("distinct, each document another", distinct("c", "_id"), 100_000 // size),
@@ -38,6 +41,18 @@ def rates(program, size):
     ]:
         rates[words] = many / (seconds(program, [inserts, one * many], RUNS) - alone)
     return rates
+
+
+def page(coll, *fields):
+    return message(element(0x02, "find", string(coll)), *fields, element(0x02, "$db", string("t")))
+
+
+def by_age():
+    return element(0x03, "sort", document(element(0x10, "age", int32(1))))
+
+
+def names_alone():
+    return element(0x03, "projection", document(element(0x10, "name", int32(1))))
 
 
 def at_least(number):

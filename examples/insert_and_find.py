@@ -81,8 +81,9 @@ asked = b"".join([
         {"q": {"_id": 3}, "u": {"$set": {"name": "Fay"}}, "upsert": True},
     ], "$db": "town"}),
     message(9, {"findAndModify": "people", "query": {"name": "Eve"}, "update": {"$set": {"name": "Eva"}}, "new": True, "$db": "town"}),
-    message(10, {"delete": "people", "deletes": [{"q": {"name": {"$gt": "Bob"}}, "limit": 0}], "$db": "town"}),
-    message(11, {"find": "people", "$db": "town"}),
+    message(10, {"find": "people", "sort": {"name": -1}, "limit": 2, "projection": {"_id": 0, "name": 1}, "$db": "town"}),
+    message(11, {"delete": "people", "deletes": [{"q": {"name": {"$gt": "Bob"}}, "limit": 0}], "$db": "town"}),
+    message(12, {"find": "people", "$db": "town"}),
 ])
 for reply in replies(subprocess.run([sys.argv[1], "pipe"], input=asked, stdout=subprocess.PIPE, check=True).stdout):
     print(reply)

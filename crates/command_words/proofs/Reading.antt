@@ -10,7 +10,9 @@ use Rattle.std_words.specs.Steps.{◌>>=◌, fault_of}
 use Rattle.bson_values.specs.declared.pairs.Pair.{Pair}
 use Rattle.bson_values.specs.declared.space.Space.{Space}
 use Rattle.bson_values.specs.declared.value.Value.{Value}
+use Rattle.filter_syntax.specs.declared.filter.Filter.{Filter}
 use Rattle.naming.specs.Names.{is_valid, is_database_name, is_collection_name}
+use Rattle.doc_model.specs.declared.op.Modify.{Modify}
 use Rattle.doc_model.specs.declared.op.Op.{Op}
 use Rattle.doc_model.specs.declared.op.Op.TheVariants as op
 use Rattle.doc_model.specs.Named.{IsNamed}
@@ -24,8 +26,10 @@ use Rattle.command_words.specs.declared.word.Word.TheVariants as word
 use Rattle.command_words.specs.Tables.{shape_of}
 use Rattle.command_words.specs.Body.{documents_of, field_or, truth_or, text_of, word_in, db_of, coll_of}
 use Rattle.command_words.specs.Meaning.{AreNamed, AreFew, IsFew, meaning, meaning_of, command_of, space_of, filter_in, count_in}
-use Rattle.command_words.specs.Meaning.{update_in, update_of, delete_of, change_in}
+use Rattle.command_words.specs.Meaning.{update_in, update_of, delete_of, change_in, order_in, shape_in, query_in, batch_in}
+use Rattle.doc_shape.specs.Keys.{Way}
 use Rattle.doc_shape.specs.Reading.{path_of}
+use Rattle.doc_shape.specs.declared.shape.Shape.{Shape}
 use Rattle.filter_syntax.specs.Operands.{single, each}
 use Rattle.command_words.specs.Refusal.{Tells, may_be_items, form_refusal, refusal}
 use Rattle.command_words.specs.Told.{Asks, Gives}
@@ -63,10 +67,28 @@ of_any : {A B : Type 0} (P : B → Type 0) (found : Result A ℕ) (make : A → 
     → IfOk (found >>= λ it. Ok (make it)) P
 of_any P found make is = of_operand P found make (always (λ it. P (make it)) found is)
 
+-- and so where the rest reads another operand
+of_rest : {A B : Type 0} (P : B → Type 0) (found : Result A ℕ) (rest : A → Result B ℕ) → ((it : A) → IfOk (rest it) P)
+    → IfOk (found >>= rest) P
+of_rest P (Ok it) rest is = is it
+of_rest P (Err kind) rest is = tt
+
 of_operands : {A B C : Type 0} (P : C → Type 0) (found : Result A ℕ) (other : Result B ℕ) (make : A → B → C)
     → ((it : A) (one : B) → P (make it one)) → IfOk (found >>= λ it. other >>= λ one. Ok (make it one)) P
-of_operands P (Ok it) other make is = of_any P other (make it) (is it)
-of_operands P (Err kind) other make is = tt
+of_operands P found other make is =
+    of_rest P found (λ it. other >>= λ one. Ok (make it one)) (λ it. of_any P other (make it) (is it))
+
+-- what a findAndModify is made of
+abbrev modified : Message → Filter → List Way → Modify → Shape → Command
+modified m filter order change shape = command.FindAndModify (op.FindAndModify (space_of m) filter order change
+    (truth_or false m.body (codes "new")) (truth_or false m.body (codes "upsert")) shape)
+
+of_modify : (P : Command → Type 0) (m : Message)
+    → ((filter : Filter) (order : List Way) (change : Modify) (shape : Shape) → P (modified m filter order change shape))
+    → IfOk (meaning word.FindAndModify m) P
+of_modify P m is = of_rest P (filter_in m.body (codes "query")) _
+    (λ filter. of_rest P (order_in m.body (codes "sort")) _
+    (λ order. of_operands P (change_in m.body) (shape_in m.body (codes "fields")) (modified m filter order) (is filter order)))
 
 update_named : (space : Space) → is_valid space ≡ true → (item : List (Pair Value)) → IfOk (update_of space item) IsNamed
 update_named space is item = of_operands IsNamed (filter_in item (codes "q"))
@@ -103,11 +125,9 @@ are_named word.Delete m is =
     of_items AreNamed (AreAll IsNamed docs) (each (delete_of (space_of m)) docs)
     (λ ops. command.Delete ops (truth_or true m.body (codes "ordered"))) (λ ops holds. holds.0)
     (all_made IsNamed (delete_of (space_of m)) (delete_named (space_of m) is) docs)
-are_named word.FindAndModify m is = of_operands AreNamed (filter_in m.body (codes "query")) (change_in m.body)
-    (λ filter change. command.FindAndModify (op.FindAndModify (space_of m) filter change (truth_or false m.body (codes "new"))
-    (truth_or false m.body (codes "upsert")))) (λ filter change. is)
-are_named word.Find m is = of_any AreNamed (filter_in m.body (codes "filter"))
-    (λ filter. command.Find (op.Find (space_of m) (record { filter = filter }))) (λ filter. (is, tt))
+are_named word.FindAndModify m is = of_modify AreNamed m (λ filter order change shape. is)
+are_named word.Find m is = of_any AreNamed (query_in m.body) (λ query. command.Find (op.Find (space_of m) query) (batch_in m.body))
+    (λ query. (is, tt))
 are_named word.Count m is = of_any AreNamed (filter_in m.body (codes "query"))
     (λ filter. command.Count (op.Count (space_of m) filter (count_in m.body (codes "skip")) (count_in m.body (codes "limit"))))
     (λ filter. (is, tt))
@@ -133,11 +153,9 @@ are_few word.Delete m form is =
     of_items AreFew (AreAll (λ op. ⊤) docs) (each (delete_of (space_of m)) docs)
     (λ ops. command.Delete ops (truth_or true m.body (codes "ordered"))) (λ ops holds. as_many docs (deletes_few m form is) ops holds.1)
     (all_made (λ op. ⊤) (delete_of (space_of m)) (λ item. always (λ op. ⊤) (delete_of (space_of m) item) (λ op. tt)) docs)
-are_few word.FindAndModify m form is = of_operands AreFew (filter_in m.body (codes "query")) (change_in m.body)
-    (λ filter change. command.FindAndModify (op.FindAndModify (space_of m) filter change (truth_or false m.body (codes "new"))
-    (truth_or false m.body (codes "upsert")))) (λ filter change. tt)
-are_few word.Find m form is = of_any AreFew (filter_in m.body (codes "filter"))
-    (λ filter. command.Find (op.Find (space_of m) (record { filter = filter }))) (λ filter. tt)
+are_few word.FindAndModify m form is = of_modify AreFew m (λ filter order change shape. tt)
+are_few word.Find m form is = of_any AreFew (query_in m.body) (λ query. command.Find (op.Find (space_of m) query) (batch_in m.body))
+    (λ query. tt)
 are_few word.Count m form is = of_any AreFew (filter_in m.body (codes "query"))
     (λ filter. command.Count (op.Count (space_of m) filter (count_in m.body (codes "skip")) (count_in m.body (codes "limit"))))
     (λ filter. tt)

@@ -1,6 +1,6 @@
 -- What a message asks for whose form is in order, or the kind by which the first of its operands is refused.
 use Rattle.std.specs.Prelude.{ℕ, unsigned_abs, ◌≤◌, ⊤, Bool, true, false, if◌then◌else◌, List, [], length, map}
-use Rattle.std.specs.Prelude.{option_map, codes, Result, Ok, Err}
+use Rattle.std.specs.Prelude.{Option, None, Some, option_map, codes, Result, Ok, Err}
 use Rattle.std.specs.List.{All}
 use Rattle.std.specs.Option.{unwrap_or}
 use Rattle.std.specs.Result.{result_unwrap_or}
@@ -8,7 +8,9 @@ use Rattle.std_words.specs.Steps.{◌>>=◌}
 use Rattle.bson_values.specs.declared.pairs.Pair.{Pair}
 use Rattle.bson_values.specs.declared.space.Space.{Space}
 use Rattle.bson_values.specs.declared.value.Value.{Value}
-use Rattle.doc_shape.specs.Reading.{path_of}
+use Rattle.doc_shape.specs.Keys.{Way}
+use Rattle.doc_shape.specs.Reading.{path_of, read_order, read_shape}
+use Rattle.doc_shape.specs.declared.shape.Shape.{Shape}
 use Rattle.filter_syntax.specs.declared.filter.Filter.{Filter}
 use Rattle.filter_syntax.specs.Operands.{each}
 use Rattle.filter_syntax.specs.Reading.{read}
@@ -17,6 +19,7 @@ use Rattle.update_syntax.specs.Reading.{read_in}
 use Rattle.doc_model.specs.declared.op.Modify.{Modify}
 use Rattle.doc_model.specs.declared.op.Modify.TheVariants.{Remove, Change}
 use Rattle.doc_model.specs.declared.op.Op.{Op}
+use Rattle.doc_model.specs.declared.op.Query.{Query}
 use Rattle.doc_model.specs.declared.op.Op.TheVariants as op
 use Rattle.doc_model.specs.Named.{IsNamed, IsRead}
 use Rattle.op_msg.specs.declared.message.Message.{Message}
@@ -34,9 +37,37 @@ space_of m = record { db = db_of m; coll = coll_of m }
 abbrev pub filter_in : List (Pair Value) → List ℕ → Result Filter ℕ
 filter_in fields name = read (field_or [] pairs_of fields name)
 
+-- the sort that the field of that name reads as, and the projection; an empty document stands for none
+abbrev pub order_in : List (Pair Value) → List ℕ → Result (List Way) ℕ
+order_in fields name = read_order (field_or [] pairs_of fields name)
+
+abbrev pub shape_in : List (Pair Value) → List ℕ → Result Shape ℕ
+shape_in fields name = read_shape (field_or [] pairs_of fields name)
+
 -- the whole number in the field of that name, without its sign; 0 stands for none
 abbrev pub count_in : List (Pair Value) → List ℕ → ℕ
 count_in fields name = field_or 0 (λ it. unsigned_abs (whole_of it)) fields name
+
+-- the most documents of a batch; 101 stands for none
+abbrev pub batch_in : List (Pair Value) → ℕ
+batch_in fields = field_or 101 (λ it. unsigned_abs (whole_of it)) fields (codes "batchSize")
+
+-- where the first batch is all that is asked for, the documents are cut to it
+abbrev pub cut_in : List (Pair Value) → Option ℕ
+cut_in fields = if truth_or false fields (codes "singleBatch") then Some (batch_in fields) else None
+
+-- what a find shows
+abbrev pub query_in : List (Pair Value) → Result Query ℕ
+query_in body = filter_in body (codes "filter") >>= λ filter. order_in body (codes "sort")
+    >>= λ order. shape_in body (codes "projection")
+    >>= λ shape. Ok (record {
+      filter = filter;
+      order = order;
+      skip = count_in body (codes "skip");
+      limit = count_in body (codes "limit");
+      shape = shape;
+      cut = cut_in body;
+    })
 
 -- the update that the field of that name reads as, of all documents with `multi`
 abbrev pub update_in : Bool → List (Pair Value) → List ℕ → Result Update ℕ
@@ -64,10 +95,11 @@ meaning word.Update m = each (update_of (space_of m)) (documents_of m (codes "up
     >>= λ ops. Ok (command.Update ops (truth_or true m.body (codes "ordered")))
 meaning word.Delete m = each (delete_of (space_of m)) (documents_of m (codes "deletes"))
     >>= λ ops. Ok (command.Delete ops (truth_or true m.body (codes "ordered")))
-meaning word.FindAndModify m = filter_in m.body (codes "query") >>= λ filter. change_in m.body
-    >>= λ change. Ok (command.FindAndModify (op.FindAndModify (space_of m) filter change (truth_or false m.body (codes "new"))
-    (truth_or false m.body (codes "upsert"))))
-meaning word.Find m = filter_in m.body (codes "filter") >>= λ filter. Ok (command.Find (op.Find (space_of m) (record { filter = filter })))
+meaning word.FindAndModify m = filter_in m.body (codes "query") >>= λ filter. order_in m.body (codes "sort")
+    >>= λ order. change_in m.body >>= λ change. shape_in m.body (codes "fields")
+    >>= λ shape. Ok (command.FindAndModify (op.FindAndModify (space_of m) filter order change (truth_or false m.body (codes "new"))
+    (truth_or false m.body (codes "upsert")) shape))
+meaning word.Find m = query_in m.body >>= λ query. Ok (command.Find (op.Find (space_of m) query) (batch_in m.body))
 meaning word.Count m = filter_in m.body (codes "query")
     >>= λ filter. Ok (command.Count (op.Count (space_of m) filter (count_in m.body (codes "skip")) (count_in m.body (codes "limit"))))
 meaning word.Distinct m = path_of (field_or [] text_of m.body (codes "key"))
@@ -88,7 +120,7 @@ AreNamed (command.Insert ops ordered) = All IsNamed ops
 AreNamed (command.Update ops ordered) = All IsNamed ops
 AreNamed (command.Delete ops ordered) = All IsNamed ops
 AreNamed (command.FindAndModify one) = IsNamed one
-AreNamed (command.Find one) = IsNamed one × IsRead one
+AreNamed (command.Find one batch) = IsNamed one × IsRead one
 AreNamed (command.Count one) = IsNamed one × IsRead one
 AreNamed (command.Distinct one) = IsNamed one × IsRead one
 

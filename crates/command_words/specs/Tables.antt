@@ -42,9 +42,10 @@ shape_of Ping = record { own = Anything; fields = []; free = true }
 shape_of Insert = on_coll (must Documents "documents" ∷ may Truth "ordered" ∷ [])
 shape_of Update = on_coll (must (Items item.Update) "updates" ∷ may Truth "ordered" ∷ [])
 shape_of Delete = on_coll (must (Items item.Delete) "deletes" ∷ may Truth "ordered" ∷ [])
-shape_of FindAndModify = on_coll (may Document "query" ∷ may Truth "remove" ∷ may DocumentOrArray "update" ∷ may Truth "new"
-    ∷ may Truth "upsert" ∷ [])
-shape_of Find = on_coll (may Document "filter" ∷ [])
+shape_of FindAndModify = on_coll (may Document "query" ∷ may Document "sort" ∷ may Truth "remove" ∷ may DocumentOrArray "update"
+    ∷ may Truth "new" ∷ may Truth "upsert" ∷ may Document "fields" ∷ [])
+shape_of Find = on_coll (may Document "filter" ∷ may Document "sort" ∷ may Document "projection" ∷ may Natural "skip" ∷ may Natural "limit"
+    ∷ may Natural "batchSize" ∷ may Truth "singleBatch" ∷ [])
 shape_of Count = on_coll (may Document "query" ∷ may Natural "skip" ∷ may Whole "limit" ∷ [])
 shape_of Distinct = on_coll (must Text "key" ∷ may Document "query" ∷ [])
 

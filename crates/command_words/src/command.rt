@@ -1,13 +1,15 @@
 ghost use Rattle.std.specs.Prelude.{◌≡◌, map, IfOk, OnOk, None, IfErr};
 ghost use Rattle.doc_model.specs.declared.op.Op.TheVariants as op;
 ghost use Rattle.command_words.specs.declared.word.Word.TheVariants as word;
-ghost use Rattle.command_words.specs.Meaning.{meaning, space_of, command_of, AreNamed, AreFew};
+ghost use Rattle.command_words.specs.Meaning.{meaning, space_of, query_in, command_of, AreNamed, AreFew};
 ghost use Rattle.command_words.specs.Refusal.{refusal, Tells};
 ghost use Rattle.command_words.specs.Told.{Gives};
 
 use crate::body::{coll_of, db_of};
 use crate::documents::documents_named;
-use crate::operands::{count_in, filter_in, path_in, truth_or};
+use crate::operands::{
+    batch_in, count_in, cut_in, filter_in, order_in, path_in, shape_in, truth_or,
+};
 use crate::refusal::asked;
 use crate::refused::CommandRefused;
 use crate::word::Word;
@@ -27,7 +29,8 @@ pub enum Command {
     Update { ops: List<Op>, ordered: bool },
     Delete { ops: List<Op>, ordered: bool },
     FindAndModify { op: Op },
-    Find { op: Op },
+    /// `batch`: the most documents of the first batch.
+    Find { op: Op, batch: u64 },
     Count { op: Op },
     Distinct { op: Op },
 }
@@ -106,31 +109,65 @@ fn find_and_modify(alloc: Global, message: &Message) -> Result<Command, CommandR
 {
     let space = space_of(alloc, message)?;
     let filter = filter_in(alloc, &message.body, "query")?;
-    match change_in(alloc, &message.body) {
-        Ok(change) => Ok(Command::FindAndModify {
+    let order = match order_in(alloc, &message.body, "sort") {
+        Ok(order) => order,
+        Err(why) => {
+            drop(filter);
+            return Err(why);
+        }
+    };
+    let change = match change_in(alloc, &message.body) {
+        Ok(change) => change,
+        Err(why) => {
+            drop(filter);
+            return Err(why);
+        }
+    };
+    match shape_in(alloc, &message.body, "fields") {
+        Ok(shape) => Ok(Command::FindAndModify {
             op: Op::FindAndModify {
                 space,
                 filter,
+                order,
                 change,
                 fresh: truth_or(false, &message.body, "new"),
                 upsert: truth_or(false, &message.body, "upsert"),
+                shape,
             },
         }),
         Err(why) => {
             drop(filter);
+            drop(change);
             Err(why)
         }
     }
+}
+
+/// What a find shows.
+fn query_in(alloc: Global, body: &Document) -> Result<Query, CommandRefused>
+    ensures { Gives result (query_in body.now) }
+{
+    let filter = filter_in(alloc, body, "filter")?;
+    let order = order_in(alloc, body, "sort")?;
+    let shape = shape_in(alloc, body, "projection")?;
+    Ok(Query {
+        filter,
+        order,
+        skip: count_in(body, "skip"),
+        limit: count_in(body, "limit"),
+        shape,
+        cut: cut_in(body),
+    })
 }
 
 fn find(alloc: Global, message: &Message) -> Result<Command, CommandRefused>
     ensures { Gives result (meaning word.Find message.now) }
 {
     let space = space_of(alloc, message)?;
-    let filter = filter_in(alloc, &message.body, "filter")?;
-    let query = Query { filter };
+    let query = query_in(alloc, &message.body)?;
     Ok(Command::Find {
         op: Op::Find { space, query },
+        batch: batch_in(&message.body),
     })
 }
 

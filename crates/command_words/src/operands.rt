@@ -2,9 +2,9 @@ ghost use Rattle.std.specs.Prelude.{◌≡◌, []};
 ghost use Rattle.bson_values.specs.declared.value.Value.TheViews.{out-Value};
 ghost use Rattle.filter_syntax.specs.Reading.{read};
 ghost use Rattle.update_syntax.specs.Reading.{read_in};
-ghost use Rattle.doc_shape.specs.Reading.{path_of};
+ghost use Rattle.doc_shape.specs.Reading.{path_of, read_order, read_shape};
 ghost use Rattle.command_words.specs.Body.{field_or, truth_or, pairs_of, text_of};
-ghost use Rattle.command_words.specs.Meaning.{filter_in, count_in, update_in};
+ghost use Rattle.command_words.specs.Meaning.{filter_in, order_in, shape_in, count_in, batch_in, cut_in, update_in};
 ghost use Rattle.command_words.specs.Told.{Gives};
 
 use crate::refused::CommandRefused;
@@ -12,10 +12,13 @@ use crate::values::{text_of, truth_of, whole_of};
 use bson_values::{Document, Value};
 use case_tables::FIELD_MISSING;
 use doc_paths::Path;
-use doc_shape::{ShapeRefused, read_path};
+use doc_shape::{Order, Shape, ShapeRefused, read_path};
 use filter_syntax::{Filter, FilterRefused};
 use std::alloc::Global;
 use update_syntax::{Update, UpdateRefused};
+
+/// The most documents of the first batch of a find that names no size.
+const DEFAULT_BATCH: u64 = 101;
 
 /// The truth of the field of that name, or what stands for none.
 pub(crate) fn truth_or(none: bool, fields: &Document, name: &str) -> bool
@@ -35,6 +38,26 @@ pub(crate) fn count_in(fields: &Document, name: &str) -> u64
         Some(value) => whole_of(value).unsigned_abs(),
         None => 0,
     }
+}
+
+/// The most documents of a batch.
+pub(crate) fn batch_in(fields: &Document) -> u64
+    ensures { result ≡ batch_in fields.now }
+{
+    match fields.get("batchSize") {
+        Some(value) => whole_of(value).unsigned_abs(),
+        None => DEFAULT_BATCH,
+    }
+}
+
+/// The most documents that are shown at all, where the first batch is all that is asked for.
+pub(crate) fn cut_in(fields: &Document) -> Option<u64>
+    ensures { result ≡ cut_in fields.now }
+{
+    if truth_or(false, fields, "singleBatch") {
+        return Some(batch_in(fields));
+    }
+    None
 }
 
 fn read_key(alloc: Global, text: &str) -> Result<Path, CommandRefused>
@@ -87,6 +110,54 @@ pub(crate) fn filter_in(
     match fields.get(name) {
         Some(value) => filter_of(alloc, value),
         None => read_filter(alloc, &Document::new(alloc)),
+    }
+}
+
+fn read_order(alloc: Global, doc: &Document) -> Result<Order, CommandRefused>
+    ensures { Gives result (read_order doc.now) }
+{
+    match Order::read(alloc, doc) {
+        Ok(order) => Ok(order),
+        Err(ShapeRefused::Refused(kind)) => Err(CommandRefused::Refused(kind)),
+        Err(ShapeRefused::NoMemory) => Err(CommandRefused::NoMemory),
+    }
+}
+
+/// The sort that the field of that name reads as; an empty document stands for none.
+pub(crate) fn order_in(
+    alloc: Global,
+    fields: &Document,
+    name: &str,
+) -> Result<Order, CommandRefused>
+    ensures { Gives result (order_in fields.now name.now) }
+{
+    match fields.get(name) {
+        Some(Value::Doc(doc)) => read_order(alloc, doc),
+        _ => read_order(alloc, &Document::new(alloc)),
+    }
+}
+
+fn read_shape(alloc: Global, doc: &Document) -> Result<Shape, CommandRefused>
+    ensures { Gives result (read_shape doc.now) }
+{
+    match Shape::read(alloc, doc) {
+        Ok(shape) => Ok(shape),
+        Err(ShapeRefused::Refused(kind)) => Err(CommandRefused::Refused(kind)),
+        Err(ShapeRefused::NoMemory) => Err(CommandRefused::NoMemory),
+    }
+}
+
+/// The projection that the field of that name reads as; an empty document stands for none.
+pub(crate) fn shape_in(
+    alloc: Global,
+    fields: &Document,
+    name: &str,
+) -> Result<Shape, CommandRefused>
+    ensures { Gives result (shape_in fields.now name.now) }
+{
+    match fields.get(name) {
+        Some(Value::Doc(doc)) => read_shape(alloc, doc),
+        _ => read_shape(alloc, &Document::new(alloc)),
     }
 }
 

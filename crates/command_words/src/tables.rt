@@ -82,10 +82,14 @@ static UPDATE: Table = table! { Text { must "updates": Items(Update), may "order
 static DELETE: Table = table! { Text { must "deletes": Items(Delete), may "ordered": Truth } };
 
 static FIND_AND_MODIFY: Table = table! { Text {
-    may "query": Document, may "remove": Truth, may "update": DocumentOrArray, may "new": Truth, may "upsert": Truth,
+    may "query": Document, may "sort": Document, may "remove": Truth, may "update": DocumentOrArray, may "new": Truth, may "upsert": Truth,
+    may "fields": Document,
 } };
 
-static FIND: Table = table! { Text { may "filter": Document } };
+static FIND: Table = table! { Text {
+    may "filter": Document, may "sort": Document, may "projection": Document, may "skip": Natural, may "limit": Natural,
+    may "batchSize": Natural, may "singleBatch": Truth,
+} };
 
 static COUNT: Table =
     table! { Text { may "query": Document, may "skip": Natural, may "limit": Whole } };

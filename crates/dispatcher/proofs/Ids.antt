@@ -17,7 +17,7 @@ use Rattle.bson_spelling.proofs.Helds.{Spelled, along, joined}
 use Rattle.bson_spelling.proofs.Sizes.{length-string, length-binary, length-enclosed, length-element_of}
 use Rattle.filter_syntax.specs.Meaning.{Doc}
 use Rattle.op_msg.specs.Limits.{MOST_REPLY}
-use Rattle.doc_store.specs.Replies.{FitsId, FitsDoc}
+use Rattle.doc_effects.specs.Replies.{FitsId, FitsDoc}
 use Rattle.reply_words.specs.declared.ends.ItemEnd.{ItemEnd}
 use Rattle.reply_words.specs.Replies.{modified_document}
 use Rattle.reply_words.specs.Small.{AreShort, HasShortId, IsShortId, IsShortDocument}

@@ -16,43 +16,44 @@ use Rattle.dispatcher.specs.Answers.{removes}
 use Rattle.dispatcher.specs.Answering.{DoneBy, DoneOne, Modifies, Reads, Told, ToldOne}
 
 -- nothing was asked of the tables
-pub read-starved : (s : Tables) (v : Views) (who : Who) (now : ℕ) (number request : ℤ) (op : Op)
-    → DoneOne s v v who (record who { op = who.op + 1 }) now number request op [] NoMemory
-read-starved s v who now number request op = record {
+pub read-starved : (s : Tables) (v : Views) (who : Who) (now : ℕ) (number request : ℤ) (most : ℕ) (op : Op)
+    → DoneOne s v v who (record who { op = who.op + 1 }) now number request most op [] NoMemory
+read-starved s v who now number request most op = record {
   did = record { next = refl; served = served_none s v };
   few = omega arith;
   told = (omega arith, tt);
 }
 
-read-told : (number request : ℤ) (op : Op) (reply : OpReply) (a : Answered) → Keeps reply → Reads number request (space_of op) reply a
-    → ToldOne op number request (reply ∷ []) a
-read-told number request op replied.NoMemory (Whole bytes) keeps is = absurd is
-read-told number request op (replied.Selected docs) (Whole bytes) keeps is = (tt, is)
-read-told number request op (replied.Counted n) (Whole bytes) keeps is = (tt, is)
-read-told number request op (replied.Values values) (Whole bytes) keeps is = (tt, is)
-read-told number request op (replied.Refused kind) (Whole bytes) keeps is = (tt, is)
-read-told number request op replied.Fault (Whole bytes) keeps is = (tt, is)
-read-told number request op replied.Inserted (Whole bytes) keeps is = absurd keeps
-read-told number request op (replied.Updated matched changed upserted) (Whole bytes) keeps is = absurd keeps
-read-told number request op (replied.Deleted n) (Whole bytes) keeps is = absurd keeps
-read-told number request op (replied.Modified existed upserted value) (Whole bytes) keeps is = absurd keeps
-read-told number request op reply NoMemory keeps is = (omega arith, (keeps, tt))
+read-told : (number request : ℤ) (most : ℕ) (op : Op) (reply : OpReply) (a : Answered) → Keeps reply
+    → Reads most number request (space_of op) reply a → ToldOne most op number request (reply ∷ []) a
+read-told number request most op replied.NoMemory (Whole bytes) keeps is = absurd is
+read-told number request most op (replied.Selected docs) (Whole bytes) keeps is = (tt, is)
+read-told number request most op (replied.Counted n) (Whole bytes) keeps is = (tt, is)
+read-told number request most op (replied.Values values) (Whole bytes) keeps is = (tt, is)
+read-told number request most op (replied.Refused kind) (Whole bytes) keeps is = (tt, is)
+read-told number request most op replied.Fault (Whole bytes) keeps is = (tt, is)
+read-told number request most op replied.Inserted (Whole bytes) keeps is = absurd keeps
+read-told number request most op (replied.Updated matched changed upserted) (Whole bytes) keeps is = absurd keeps
+read-told number request most op (replied.Deleted n) (Whole bytes) keeps is = absurd keeps
+read-told number request most op (replied.Modified existed upserted value) (Whole bytes) keeps is = absurd keeps
+read-told number request most op reply NoMemory keeps is = (omega arith, (keeps, tt))
 
 -- one operation was served
-pub read-done : (s : Tables) (old new : Views) (who : Who) (now : ℕ) (number request : ℤ) (op : Op) (reply : OpReply) (a : Answered)
+pub read-done : (s : Tables) (old new : Views) (who : Who) (now : ℕ) (number request : ℤ) (most : ℕ) (op : Op) (reply : OpReply)
+    (a : Answered)
     → Served s old new (record { who = who; now = now; op = op; reply = reply } ∷ []) → Keeps reply
-    → Reads number request (space_of op) reply a
-    → DoneOne s old new who (record who { op = who.op + 1 }) now number request op (reply ∷ []) a
-read-done s old new who now number request op reply a served keeps is = record {
+    → Reads most number request (space_of op) reply a
+    → DoneOne s old new who (record who { op = who.op + 1 }) now number request most op (reply ∷ []) a
+read-done s old new who now number request most op reply a served keeps is = record {
   did = record { next = refl; served = served };
   few = omega arith;
-  told = read-told number request op reply a keeps is;
+  told = read-told number request most op reply a keeps is;
 }
 
 -- ---- one that removes or changes a document
 
 change-told : (number request : ℤ) (op : Op) (reply : OpReply) (a : Answered) → Modifies number request (removes op) (space_of op) reply a
-    → ToldOne op number request (reply ∷ []) a
+    → ToldOne 0 op number request (reply ∷ []) a
 change-told number request op replied.NoMemory (Whole bytes) is = absurd is
 change-told number request op (replied.Modified existed upserted value) (Whole bytes) is = (tt, is)
 change-told number request op replied.Inserted (Whole bytes) is = (tt, is)
@@ -77,7 +78,7 @@ change-told number request op (replied.Modified existed upserted value) NoMemory
 pub change-done : (s : Tables) (old new : Views) (who : Who) (now : ℕ) (number request : ℤ) (op : Op) (reply : OpReply) (a : Answered)
     → Served s old new (record { who = who; now = now; op = op; reply = reply } ∷ [])
     → Modifies number request (removes op) (space_of op) reply a
-    → DoneOne s old new who (record who { op = who.op + 1 }) now number request op (reply ∷ []) a
+    → DoneOne s old new who (record who { op = who.op + 1 }) now number request 0 op (reply ∷ []) a
 change-done s old new who now number request op reply a served is = record {
   did = record { next = refl; served = served };
   few = omega arith;
@@ -87,32 +88,37 @@ change-done s old new who now number request op reply a served is = record {
 -- ---- the commands that are one operation
 
 module _ (number request : ℤ) (op : Op) (replies : List OpReply) where
-  told-change : (a : Answered) → ToldOne op number request replies a → Told (command.FindAndModify op) number request replies a
+  told-change : (a : Answered) → ToldOne 0 op number request replies a → Told (command.FindAndModify op) number request replies a
   told-change (Whole bytes) is = is
   told-change NoMemory is = is
 
-  told-find : (a : Answered) → ToldOne op number request replies a → Told (command.Find op) number request replies a
-  told-find (Whole bytes) is = is
-  told-find NoMemory is = is
+  told-find : (most : ℕ) (a : Answered) → ToldOne most op number request replies a
+      → Told (command.Find op most) number request replies a
+  told-find most (Whole bytes) is = is
+  told-find most NoMemory is = is
 
-  told-count : (a : Answered) → ToldOne op number request replies a → Told (command.Count op) number request replies a
+  told-count : (a : Answered) → ToldOne 0 op number request replies a → Told (command.Count op) number request replies a
   told-count (Whole bytes) is = is
   told-count NoMemory is = is
 
-  told-distinct : (a : Answered) → ToldOne op number request replies a → Told (command.Distinct op) number request replies a
+  told-distinct : (a : Answered) → ToldOne 0 op number request replies a → Told (command.Distinct op) number request replies a
   told-distinct (Whole bytes) is = is
   told-distinct NoMemory is = is
 
-module _ {s : Tables} {old new : Views} {who who' : Who} {now : ℕ} {number request : ℤ} {op : Op} {replies : List OpReply} {a : Answered}
-    (by : DoneOne s old new who who' now number request op replies a) where
-  pub done-change : DoneBy s old new who who' now number request (command.FindAndModify op) replies a
-  done-change = record { did = by.did; few = by.few; told = told-change number request op replies a by.told }
+module _ {s : Tables} {old new : Views} {who who' : Who} {now : ℕ} {number request : ℤ} {op : Op} {replies : List OpReply}
+    {a : Answered} where
+  pub done-find : {most : ℕ} → DoneOne s old new who who' now number request most op replies a
+      → DoneBy s old new who who' now number request (command.Find op most) replies a
+  done-find by = record { did = by.did; few = by.few; told = told-find number request op replies _ a by.told }
 
-  pub done-find : DoneBy s old new who who' now number request (command.Find op) replies a
-  done-find = record { did = by.did; few = by.few; told = told-find number request op replies a by.told }
+  pub done-change : DoneOne s old new who who' now number request 0 op replies a
+      → DoneBy s old new who who' now number request (command.FindAndModify op) replies a
+  done-change by = record { did = by.did; few = by.few; told = told-change number request op replies a by.told }
 
-  pub done-count : DoneBy s old new who who' now number request (command.Count op) replies a
-  done-count = record { did = by.did; few = by.few; told = told-count number request op replies a by.told }
+  pub done-count : DoneOne s old new who who' now number request 0 op replies a
+      → DoneBy s old new who who' now number request (command.Count op) replies a
+  done-count by = record { did = by.did; few = by.few; told = told-count number request op replies a by.told }
 
-  pub done-distinct : DoneBy s old new who who' now number request (command.Distinct op) replies a
-  done-distinct = record { did = by.did; few = by.few; told = told-distinct number request op replies a by.told }
+  pub done-distinct : DoneOne s old new who who' now number request 0 op replies a
+      → DoneBy s old new who who' now number request (command.Distinct op) replies a
+  done-distinct by = record { did = by.did; few = by.few; told = told-distinct number request op replies a by.told }

@@ -57,16 +57,17 @@ pub record DoneBy (s : Tables) (old new : Views) (who who' : Who) (now : ℕ) (n
   pub few : length replies ≤ 1000
   pub told : Told command number request replies answered
 
--- the same of one operation
-abbrev pub ToldOne : Op → ℤ → ℤ → List OpReply → Answered → Type 0
-ToldOne op number request replies (Whole bytes) = IsOne replies × (bytes ≡ reply number request (one_document (op ∷ []) replies))
-ToldOne op number request replies NoMemory = (length replies ≤ 1) × Each Keeps replies
+-- the same of one operation, of whose documents so many go into the first batch
+abbrev pub ToldOne : ℕ → Op → ℤ → ℤ → List OpReply → Answered → Type 0
+ToldOne most op number request replies (Whole bytes) =
+    IsOne replies × (bytes ≡ reply number request (one_document most (op ∷ []) replies))
+ToldOne most op number request replies NoMemory = (length replies ≤ 1) × Each Keeps replies
 
-pub record DoneOne (s : Tables) (old new : Views) (who who' : Who) (now : ℕ) (number request : ℤ) (op : Op) (replies : List OpReply)
-    (answered : Answered) : Type 0 where
+pub record DoneOne (s : Tables) (old new : Views) (who who' : Who) (now : ℕ) (number request : ℤ) (most : ℕ) (op : Op)
+    (replies : List OpReply) (answered : Answered) : Type 0 where
   pub did : Did s old new who who' now (op ∷ []) replies (max 1 (length replies))
   pub few : length replies ≤ 1000
-  pub told : ToldOne op number request replies answered
+  pub told : ToldOne most op number request replies answered
 
 -- the answer to a message that asks for nothing that is done
 abbrev pub Refuses : ℤ → ℤ → Option ℕ → CommandRefused → Answered → Type 0
@@ -75,24 +76,24 @@ Refuses number request foreign refused.NoMemory (Whole bytes) = ⊥
 Refuses number request foreign why NoMemory = Unit {0}
 
 -- what tells the reply of an operation in that collection, unless memory was wanting
-abbrev pub Tellable : Space → OpReply → Option Reply → Type 0
-Tellable space replied.NoMemory None = Unit {0}
-Tellable space replied.NoMemory (Some reply) = ⊥
-Tellable space answer (Some reply) = reply ≡ told space answer
-Tellable space answer None = ⊥
+abbrev pub Tellable : ℕ → Space → OpReply → Option Reply → Type 0
+Tellable most space replied.NoMemory None = Unit {0}
+Tellable most space replied.NoMemory (Some reply) = ⊥
+Tellable most space answer (Some reply) = reply ≡ told most space answer
+Tellable most space answer None = ⊥
 
 -- the answer to an operation in that collection that reads and was replied so
-abbrev pub Reads : ℤ → ℤ → Space → OpReply → Answered → Type 0
-Reads number request space replied.NoMemory (Whole bytes) = ⊥
-Reads number request space answer (Whole bytes) = bytes ≡ reply number request (document_of (told space answer))
-Reads number request space answer NoMemory = Unit {0}
+abbrev pub Reads : ℕ → ℤ → ℤ → Space → OpReply → Answered → Type 0
+Reads most number request space replied.NoMemory (Whole bytes) = ⊥
+Reads most number request space answer (Whole bytes) = bytes ≡ reply number request (document_of (told most space answer))
+Reads most number request space answer NoMemory = Unit {0}
 
 -- the same of an operation that removes the document that it finds, or else changes it
 abbrev pub Modifies : ℤ → ℤ → Bool → Space → OpReply → Answered → Type 0
 Modifies number request removed space (replied.Modified existed upserted value) (Whole bytes) =
     bytes ≡ reply number request (modified_document removed existed upserted value)
 Modifies number request removed space replied.NoMemory (Whole bytes) = ⊥
-Modifies number request removed space answer (Whole bytes) = bytes ≡ reply number request (document_of (told space answer))
+Modifies number request removed space answer (Whole bytes) = bytes ≡ reply number request (document_of (told 0 space answer))
 Modifies number request removed space answer NoMemory = Keeps answer
 
 -- ---- the items of a write

@@ -32,7 +32,7 @@ ops_in (Insert ops ordered) = ops
 ops_in (Update ops ordered) = ops
 ops_in (Delete ops ordered) = ops
 ops_in (FindAndModify op) = op ∷ []
-ops_in (Find op) = op ∷ []
+ops_in (Find op most) = op ∷ []
 ops_in (Count op) = op ∷ []
 ops_in (Distinct op) = op ∷ []
 
@@ -79,32 +79,37 @@ IsComplete m replies = MatchOption (refusal m) (Completes (command_of m) replies
 
 -- ---- the document that tells them
 
--- what tells the reply of an operation in that collection; documents are refused, so far, where they do not go into one batch
-abbrev pub told : Space → OpReply → Reply
-told space (replied.Selected docs) = if fit_a_batch docs then it.Batch space docs else it.Error 29 None
-told space (replied.Counted n) = it.Counted n
-told space (replied.Values values) = it.Values values
-told space (replied.Refused kind) = it.Error kind None
-told space reply = it.Error 1 None
+-- what tells the reply of an operation in that collection; documents that do not go into the first batch are refused so far
+abbrev pub told : ℕ → Space → OpReply → Reply
+told most space (replied.Selected docs) = if fit_a_batch most docs then it.Batch space docs else it.Error 29 None
+told most space (replied.Counted n) = it.Counted n
+told most space (replied.Values values) = it.Values values
+told most space (replied.Refused kind) = it.Error kind None
+told most space reply = it.Error 1 None
 
 -- the operation is to remove the document that it finds
 abbrev pub removes : Op → Bool
-removes (asked.FindAndModify space it Remove fresh upsert) = true
+removes (asked.FindAndModify space it order Remove fresh upsert shape) = true
 removes op = false
 
-abbrev pub op_document : Op → OpReply → Doc
-op_document op (replied.Modified existed upserted value) = modified_document (removes op) existed upserted value
-op_document op reply = document_of (told (space_of op) reply)
+abbrev pub op_document : ℕ → Op → OpReply → Doc
+op_document most op (replied.Modified existed upserted value) = modified_document (removes op) existed upserted value
+op_document most op reply = document_of (told most (space_of op) reply)
 
-abbrev pub one_document : List Op → List OpReply → Doc
-one_document (op ∷ []) (one ∷ []) = op_document op one
-one_document ops replies = document_of it.Done
+abbrev pub one_document : ℕ → List Op → List OpReply → Doc
+one_document most (op ∷ []) (one ∷ []) = op_document most op one
+one_document most ops replies = document_of it.Done
+
+-- the most documents of the first batch; a command that is no find shows none
+abbrev pub batch_of : Command → ℕ
+batch_of (Find op most) = most
+batch_of command = 0
 
 abbrev pub command_document : Command → List OpReply → Doc
 command_document (Insert ops ordered) replies = items_document false (map end_of replies)
 command_document (Update ops ordered) replies = items_document true (map end_of replies)
 command_document (Delete ops ordered) replies = items_document false (map end_of replies)
-command_document command replies = one_document (ops_in command) replies
+command_document command replies = one_document (batch_of command) (ops_in command) replies
 
 -- a refused message is answered with its refusal
 abbrev pub document_by : Option ℕ → Option Foreign → Command → List OpReply → Doc

@@ -6,7 +6,7 @@ ghost use Rattle.dispatcher.specs.Answering.{DoneBy, Told};
 
 use crate::answers::Answered;
 use crate::modifying::modify;
-use crate::reading::read;
+use crate::reading::{NO_BATCH, read};
 use crate::telling::put;
 use crate::writing::write;
 use command_words::Command;
@@ -64,8 +64,8 @@ pub(crate) fn done<T: TableDesk>(
             )
         }
         Command::FindAndModify { op } => modify(alloc, tables, who, now, number, request, op),
-        Command::Find { op } => read(alloc, tables, who, now, number, request, op),
-        Command::Count { op } => read(alloc, tables, who, now, number, request, op),
-        Command::Distinct { op } => read(alloc, tables, who, now, number, request, op),
+        Command::Find { op, batch } => read(alloc, tables, who, now, number, request, batch, op),
+        Command::Count { op } => read(alloc, tables, who, now, number, request, NO_BATCH, op),
+        Command::Distinct { op } => read(alloc, tables, who, now, number, request, NO_BATCH, op),
     }
 }

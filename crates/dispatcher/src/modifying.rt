@@ -3,14 +3,14 @@ ghost use Rattle.naming.specs.Names.{is_valid};
 ghost use Rattle.op_msg.specs.Reply.{reply as reply_of};
 ghost use Rattle.doc_model.specs.declared.op.OpReply.{OpReply as Replied};
 ghost use Rattle.doc_model.specs.Named.{IsNamed, space_of};
-ghost use Rattle.doc_store.specs.Replies.{Fits, FitsDoc, FitsId};
+ghost use Rattle.doc_effects.specs.Replies.{Fits, FitsDoc, FitsId};
 ghost use Rattle.reply_words.specs.Replies.{document_of, modified_document};
 ghost use Rattle.reply_words.specs.declared.replies.Reply.TheVariants as told_by;
 ghost use Rattle.dispatcher.specs.Answers.{removes};
 ghost use Rattle.dispatcher.specs.Answering.{DoneOne, Modifies};
 
 use crate::answers::Answered;
-use crate::reading::{error, space_of, told};
+use crate::reading::{NO_BATCH, error, space_of, told};
 use crate::telling::{BEFORE, put};
 use bson_values::{Bytes, Document, NoMemory, Room, Space, Value};
 use case_tables::INTERNAL_ERROR;
@@ -103,7 +103,7 @@ fn told_change(
         OpReply::Updated { .. } => Answered::Whole(fault),
         OpReply::Deleted(_) => Answered::Whole(fault),
         OpReply::Fault => Answered::Whole(fault),
-        reply => told(alloc, number, request, space, reply),
+        reply => told(alloc, number, request, NO_BATCH, space, reply),
     }
 }
 
@@ -124,7 +124,7 @@ pub(crate) fn modify<T: TableDesk>(
     ensures opening { T.opening tables.new ≡ T.opening tables.old }
     ensures first { T.first tables.new ≡ T.first tables.old }
     ensures done { (replies : Seq Replied) × DoneOne (T.opening tables.old) (T.at tables.old) (T.at tables.new) who.old who.new now
-        number request op replies result }
+        number request 0 op replies result }
 {
     let first = *who;
     who.op += 1;

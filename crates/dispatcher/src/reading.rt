@@ -2,7 +2,7 @@ ghost use Rattle.std.specs.Prelude.{◌≡◌, ◌<◌, ◌^◌, false, true, If
 ghost use Rattle.naming.specs.Names.{is_valid};
 ghost use Rattle.doc_model.specs.declared.op.OpReply.{OpReply as Replied};
 ghost use Rattle.doc_model.specs.Named.{IsNamed, IsRead, space_of};
-ghost use Rattle.doc_store.specs.Replies.{Fits};
+ghost use Rattle.doc_effects.specs.Replies.{Fits};
 ghost use Rattle.reply_words.specs.Small.{IsSmall};
 ghost use Rattle.reply_words.specs.declared.replies.Reply.TheVariants as reply;
 ghost use Rattle.doc_model.specs.declared.op.OpReply.TheVariants as replied;
@@ -19,6 +19,9 @@ use history_lock::Who;
 use reply_words::{Reply, fit_a_batch};
 use std::alloc::Global;
 use table_words::TableDesk;
+
+/// The size of the first batch of a command that shows no documents.
+pub(crate) const NO_BATCH: u64 = 0;
 
 /// The collection of an operation.
 pub(crate) fn space_of(alloc: Global, op: &Op) -> Result<Space, NoMemory>
@@ -45,14 +48,14 @@ pub(crate) fn error(kind: Kind) -> Reply
     }
 }
 
-/// What tells documents that were found. So far it is refused where they do not go into one batch.
+/// What tells documents that were found, at most `most` in the first batch. So far it is refused where they do not go into that one.
 #[tactic(auto, using(crate::proofs::Sending::is_short))]
-fn batch(space: Space, docs: List<Document>) -> Reply
+fn batch(most: u64, space: Space, docs: List<Document>) -> Reply
     requires { is_valid space ≡ true }
-    ensures told { result ≡ told space (replied.Selected docs) }
+    ensures told { result ≡ told most space (replied.Selected docs) }
     ensures small { IsSmall result }
 {
-    if fit_a_batch(docs.as_slice()) {
+    if fit_a_batch(most, docs.as_slice()) {
         Reply::Batch { space, docs }
     } else {
         error(NOT_SUPPORTED)
@@ -60,14 +63,14 @@ fn batch(space: Space, docs: List<Document>) -> Reply
 }
 
 /// What tells the reply of an operation in that collection that changed nothing; nothing, where memory was wanting.
-fn found(space: Space, reply: OpReply) -> Option<Reply>
+fn found(most: u64, space: Space, reply: OpReply) -> Option<Reply>
     requires valid { is_valid space ≡ true }
     requires fits { Fits reply }
-    ensures told { Tellable space reply result }
+    ensures told { Tellable most space reply result }
     ensures small { IfSome result IsSmall }
 {
     match reply {
-        OpReply::Selected(docs) => Some(batch(space, docs)),
+        OpReply::Selected(docs) => Some(batch(most, space, docs)),
         OpReply::Counted(n) => Some(Reply::Counted { n }),
         OpReply::Values(values) => Some(Reply::Values { values }),
         OpReply::Refused(kind) => Some(error(kind)),
@@ -76,19 +79,20 @@ fn found(space: Space, reply: OpReply) -> Option<Reply>
     }
 }
 
-/// The answer to an operation that was replied so, and changed nothing.
+/// The answer to an operation that was replied so, and changed nothing: of documents at most `most` in the first batch.
 pub(crate) fn told(
     alloc: Global,
     number: i32,
     request: i32,
+    most: u64,
     space: Space,
     reply: OpReply,
 ) -> Answered
     requires valid { is_valid space ≡ true }
     requires fits { Fits reply }
-    ensures { Reads number request space reply result }
+    ensures { Reads most number request space reply result }
 {
-    let Some(told) = found(space, reply) else {
+    let Some(told) = found(most, space, reply) else {
         return Answered::NoMemory;
     };
     match put(alloc, number, request, told) {
@@ -97,7 +101,7 @@ pub(crate) fn told(
     }
 }
 
-/// Reads documents, and answers with what was asked of them.
+/// Reads documents, and answers with what was asked of them: `most` is how many documents may be in the first batch.
 pub(crate) fn read<T: TableDesk>(
     alloc: Global,
     tables: &mut T,
@@ -105,6 +109,7 @@ pub(crate) fn read<T: TableDesk>(
     now: u64,
     number: i32,
     request: i32,
+    most: u64,
     op: Op,
 ) -> Answered
     requires named { IsNamed op }
@@ -115,7 +120,7 @@ pub(crate) fn read<T: TableDesk>(
     ensures opening { T.opening tables.new ≡ T.opening tables.old }
     ensures first { T.first tables.new ≡ T.first tables.old }
     ensures done { (replies : Seq Replied) × DoneOne (T.opening tables.old) (T.at tables.old) (T.at tables.new) who.old who.new now
-        number request op replies result }
+        number request most op replies result }
 {
     let first = *who;
     who.op += 1;
@@ -124,5 +129,5 @@ pub(crate) fn read<T: TableDesk>(
         return Answered::NoMemory;
     };
     let reply = perform(alloc, tables, first, now, op);
-    told(alloc, number, request, space, reply)
+    told(alloc, number, request, most, space, reply)
 }

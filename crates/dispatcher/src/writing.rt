@@ -2,7 +2,7 @@ ghost use Rattle.std.specs.Prelude.{◌≡◌, ◌≤◌, ◌<◌, ◌+◌, ◌^
 ghost use Rattle.doc_model.specs.Named.{IsNamed};
 ghost use Rattle.doc_model.specs.declared.op.OpReply.{OpReply as Replied};
 ghost use Rattle.doc_model.specs.declared.op.OpReply.TheVariants as replied;
-ghost use Rattle.doc_store.specs.Replies.{Fits, FitsId};
+ghost use Rattle.doc_effects.specs.Replies.{Fits, FitsId};
 ghost use Rattle.reply_words.specs.Small.{AreShort, HasShortId};
 ghost use Rattle.reply_words.specs.declared.ends.ItemEnd.TheVariants as ended;
 ghost use Rattle.dispatcher.specs.Answers.{end_of, fails};

@@ -7,6 +7,8 @@ use Rattle.history_lock.specs.declared.entry.Who.{Who}
 use Rattle.bson_values.specs.declared.space.Space.{Space}
 use Rattle.bson_values.specs.declared.value.Value.{Value}
 use Rattle.bson_values.specs.Names.{same_space}
+use Rattle.doc_shape.specs.Shown.{shown}
+use Rattle.doc_shape.specs.declared.shape.Shape.{Shape}
 use Rattle.filter_syntax.specs.Meaning.{Doc}
 use Rattle.filter_syntax.specs.declared.filter.Filter.{Filter}
 use Rattle.update_syntax.specs.After.{after, unless}
@@ -105,18 +107,18 @@ pub deletes-fair : (one : Bool) (docs : List Doc) → Fair (deletes one docs)
 deletes-fair true docs = removing-fair (take 1 docs)
 deletes-fair false docs = removing-fair docs
 
-pub modifies-fair : (who : Who) (now : ℕ) (it : Filter) (change : Modify) (fresh upsert : Bool) (docs : List Doc)
-    → IfOk (modifies who now it change fresh upsert docs) Fair
-modifies-fair who now it Remove fresh upsert [] = record { done = tt; named = tt; still = λ tells. (refl, refl) }
-modifies-fair who now it Remove fresh upsert (doc ∷ docs) = record { done = tt; named = tt; still = λ tells. absurd tells }
-modifies-fair who now it (Change update) fresh false [] = record { done = tt; named = tt; still = λ tells. (refl, refl) }
-modifies-fair who now it (Change update) fresh true [] = if-bind IsNamed Fair (built who now it update) _ (built-named who now it update)
+pub modifies-fair : (who : Who) (now : ℕ) (it : Filter) (change : Modify) (fresh upsert : Bool) (shape : Shape) (docs : List Doc)
+    → IfOk (modifies who now it change fresh upsert shape docs) Fair
+modifies-fair who now it Remove fresh upsert shape [] = record { done = tt; named = tt; still = λ tells. (refl, refl) }
+modifies-fair who now it Remove fresh upsert shape (doc ∷ docs) = record { done = tt; named = tt; still = λ tells. absurd tells }
+modifies-fair who now it (Change update) fresh false shape [] = record { done = tt; named = tt; still = λ tells. (refl, refl) }
+modifies-fair who now it (Change update) fresh true shape [] = if-bind IsNamed Fair (built who now it update) _ (built-named who now it update)
     (λ doc named. record {
       done = tt;
       named = named;
-      still = λ tells. absurd (no-insert (id_in doc) (if fresh then Some doc else None) named tells);
+      still = λ tells. absurd (no-insert (id_in doc) (if fresh then Some (shown shape doc) else None) named tells);
     })
-modifies-fair who now it (Change update) fresh upsert (doc ∷ docs) = ok-bind Fair (after update doc now false) _
+modifies-fair who now it (Change update) fresh upsert shape (doc ∷ docs) = ok-bind Fair (after update doc now false) _
     (λ new. record { done = tt; named = tt; still = λ tells. absurd tells })
 
 -- ---- what comes of an effect

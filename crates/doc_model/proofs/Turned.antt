@@ -4,6 +4,7 @@ use Rattle.std.specs.Prelude.{IfOk}
 use Rattle.history_lock.specs.declared.entry.Who.{Who}
 use Rattle.bson_values.specs.declared.space.Space.{Space}
 use Rattle.bson_values.specs.Names.{same_space}
+use Rattle.doc_shape.specs.Sorted.{sorted}
 use Rattle.filter_syntax.specs.Meaning.{Doc}
 use Rattle.doc_model.specs.declared.op.Op.{Op}
 use Rattle.doc_model.specs.declared.op.Op.TheVariants.{Insert, Find, Count, Distinct, Update, Delete, FindAndModify}
@@ -50,9 +51,10 @@ meant-turned who now (Update space it update multi upsert) s reply t is =
 meant-turned who now (Delete space it one) s reply t is =
     let docs = matching it (docs_of space s) in
     effect-turned space s (Ok (deletes one docs)) reply t (deletes-fair one docs) is
-meant-turned who now (FindAndModify space it change fresh upsert) s reply t is =
-    let docs = matching it (docs_of space s) in
-    effect-turned space s (modifies who now it change fresh upsert docs) reply t (modifies-fair who now it change fresh upsert docs) is
+meant-turned who now (FindAndModify space it order change fresh upsert shape) s reply t is =
+    let docs = sorted order (matching it (docs_of space s)) in
+    effect-turned space s (modifies who now it change fresh upsert shape docs) reply t
+    (modifies-fair who now it change fresh upsert shape docs) is
 
 pub step-turned : (who : Who) (now : ℕ) (op : Op) (s : Store) (reply : OpReply) (t : Store) → step who now op s reply t
     → Turned (space_of op) reply s t

@@ -8,6 +8,8 @@ use Rattle.bson_values.specs.declared.value.Value.{Value}
 use Rattle.jsonb_contain.specs.Texts.{data_of}
 use Rattle.serde_json.specs.Written.{compact_text}
 use Rattle.typed_json.specs.Row.{row_of}
+use Rattle.doc_shape.specs.Shown.{shown}
+use Rattle.doc_shape.specs.declared.shape.Shape.{Shape}
 use Rattle.filter_syntax.specs.Meaning.{Doc}
 use Rattle.filter_syntax.specs.declared.filter.Filter.{Filter}
 use Rattle.update_syntax.specs.After.{after, unless}
@@ -102,12 +104,12 @@ updates who now it update multi upsert (doc ∷ docs) = updates_these update now
 abbrev pub deletes : Bool → List Doc → Effect
 deletes one docs = let olds = if one then take 1 docs else docs in removing (Deleted (length olds)) olds
 
--- the first of them is removed or updated, and shown; where there is none, an upsert
-abbrev pub modifies : Who → ℕ → Filter → Modify → Bool → Bool → List Doc → Result Effect ℕ
-modifies who now it Remove fresh upsert [] = Ok (only (Modified false None None))
-modifies who now it Remove fresh upsert (doc ∷ docs) = Ok (removing (Modified true None (Some doc)) (doc ∷ []))
-modifies who now it (Change update) fresh false [] = Ok (only (Modified false None None))
-modifies who now it (Change update) fresh true [] = built who now it update
-    >>= λ doc. Ok (adding (Modified false (id_in doc) (if fresh then Some doc else None)) doc)
-modifies who now it (Change update) fresh upsert (doc ∷ docs) = after update doc now false
-    >>= λ new. Ok (renewing (Modified true None (Some (if fresh then new else doc))) (differing (doc ∷ []) (new ∷ [])))
+-- the first of them is removed or updated, and shown in a shape; where there is none, an upsert
+abbrev pub modifies : Who → ℕ → Filter → Modify → Bool → Bool → Shape → List Doc → Result Effect ℕ
+modifies who now it Remove fresh upsert shape [] = Ok (only (Modified false None None))
+modifies who now it Remove fresh upsert shape (doc ∷ docs) = Ok (removing (Modified true None (Some (shown shape doc))) (doc ∷ []))
+modifies who now it (Change update) fresh false shape [] = Ok (only (Modified false None None))
+modifies who now it (Change update) fresh true shape [] = built who now it update
+    >>= λ doc. Ok (adding (Modified false (id_in doc) (if fresh then Some (shown shape doc) else None)) doc)
+modifies who now it (Change update) fresh upsert shape (doc ∷ docs) = after update doc now false
+    >>= λ new. Ok (renewing (Modified true None (Some (shown shape (if fresh then new else doc)))) (differing (doc ∷ []) (new ∷ [])))

@@ -14,7 +14,7 @@ use Rattle.doc_model.specs.Store.{Store, empty_store, docs_of, has_id}
 use Rattle.doc_model.specs.Insert.{completed}
 use Rattle.doc_model.specs.Change.{id_in}
 use Rattle.doc_model.specs.Named.{space_of}
-use Rattle.doc_model.specs.Step.{step, meant, matching}
+use Rattle.doc_model.specs.Step.{step, meant, matching, selected}
 use Rattle.doc_model.specs.Run.{Done, run}
 
 -- the store after a refusal is the one before it
@@ -38,7 +38,7 @@ abbrev pub InsertedIsFound : Type 0
 InsertedIsFound = (who other : Who) (now then' : ℕ) (space : Space) (doc : Doc) (query : Query) (s t : Store)
     → step who now (Insert space doc) s Inserted t
     → meant other then' (Find space query) t
-    ≡ record { reply = Selected (matching query.filter (docs_of space s ++ completed who now doc ∷ [])); store = t }
+    ≡ record { reply = Selected (selected query (docs_of space s ++ completed who now doc ∷ [])); store = t }
 
 -- an operation leaves the documents of every space but its own
 abbrev pub OthersAreLeft : Type 0

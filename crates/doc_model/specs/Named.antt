@@ -12,7 +12,7 @@ space_of (Count space it skip limit) = space
 space_of (Distinct space path it) = space
 space_of (Update space it update multi upsert) = space
 space_of (Delete space it one) = space
-space_of (FindAndModify space it change fresh upsert) = space
+space_of (FindAndModify space it order change fresh upsert shape) = space
 
 -- its names are such as a database and a collection may have
 abbrev pub IsNamed : Op → Type 0
@@ -23,5 +23,5 @@ abbrev pub IsRead : Op → Type 0
 IsRead (Insert space doc) = ⊥
 IsRead (Update space it update multi upsert) = ⊥
 IsRead (Delete space it one) = ⊥
-IsRead (FindAndModify space it change fresh upsert) = ⊥
+IsRead (FindAndModify space it order change fresh upsert shape) = ⊥
 IsRead op = Unit {0}

@@ -1,16 +1,20 @@
 -- One operation on the store.
 use Rattle.std.specs.Prelude.{ℕ, ◌≡◌, ◌+◌, ◌-◌, ◌^◌, ◌==◌, Bool, if◌then◌else◌, nat_le, nat_lt, true, false}
-use Rattle.std.specs.Prelude.{List, [], ◌∷◌, ◌++◌, length, take, drop, Option, None, Some, Result, Ok, Err}
+use Rattle.std.specs.Prelude.{List, [], ◌∷◌, ◌++◌, length, map, take, drop, Option, None, Some, Result, Ok, Err}
 use Rattle.std.specs.List.{filter}
 use Rattle.history_lock.specs.declared.entry.Who.{Who}
 use Rattle.bson_values.specs.declared.space.Space.{Space}
 use Rattle.bson_values.specs.declared.value.Value.{Value}
 use Rattle.bson_values.specs.declared.value.Value.TheVariants.{Arr}
-use Rattle.bson_values.specs.Measures.{value_size}
+use Rattle.bson_values.specs.Cut.{cut}
+use Rattle.bson_values.specs.Measures.{size, value_size}
 use Rattle.distinct_values.specs.Distinct.{distinct}
+use Rattle.doc_shape.specs.Shown.{shown}
+use Rattle.doc_shape.specs.Sorted.{sorted}
 use Rattle.filter_syntax.specs.Meaning.{Doc, holds}
 use Rattle.filter_syntax.specs.declared.filter.Filter.{Filter}
 use Rattle.doc_model.specs.declared.op.Op.{Op}
+use Rattle.doc_model.specs.declared.op.Query.{Query}
 use Rattle.doc_model.specs.declared.op.Op.TheVariants.{Insert, Find, Count, Distinct, Update, Delete, FindAndModify}
 use Rattle.doc_model.specs.declared.op.OpReply.{OpReply}
 use Rattle.doc_model.specs.declared.op.OpReply.TheVariants.{Inserted, Selected, Counted, Values, Updated, Deleted, Modified}
@@ -90,6 +94,16 @@ matching it docs = filter (holds it) docs
 abbrev pub limited : ℕ → ℕ → List Doc → List Doc
 limited skip limit docs = if limit == 0 then drop skip docs else take limit (drop skip docs)
 
+-- of them as many as go into a batch of at most so many, where they are cut to one
+abbrev pub cut_to : Option ℕ → List Doc → List Doc
+cut_to None docs = docs
+cut_to (Some most) docs = take (cut (map size docs) most) docs
+
+-- what a find shows of the documents of a collection
+abbrev pub selected : Query → List Doc → List Doc
+selected query docs =
+    cut_to query.cut (map (shown query.shape) (limited query.skip query.limit (sorted query.order (matching query.filter docs))))
+
 -- values that are asked for: as an array of more than 16,777,216 bytes they are refused, by kind 30
 abbrev pub valued : List Value → OpReply
 valued values = if nat_le (value_size (Arr values)) 16777216 then Values values else Refused 30
@@ -104,14 +118,14 @@ abbrev pub meant : Who → ℕ → Op → Store → Meant
 meant who now (Insert space doc) s =
     by_kind (refused_by_words who now (Insert space doc)) s
     (inserted Inserted space (completed who now doc) s (collection_of space s.collections))
-meant who now (Find space query) s = same (Selected (matching query.filter (docs_of space s))) s
+meant who now (Find space query) s = same (Selected (selected query (docs_of space s))) s
 meant who now (Count space it skip limit) s = same (Counted (length (limited skip limit (matching it (docs_of space s))))) s
 meant who now (Distinct space path it) s = same (valued (distinct path (matching it (docs_of space s)))) s
 meant who now (Update space it update multi upsert) s =
     by_effect space s (updates who now it update multi upsert (matching it (docs_of space s)))
 meant who now (Delete space it one) s = by_effect space s (Ok (deletes one (matching it (docs_of space s))))
-meant who now (FindAndModify space it change fresh upsert) s =
-    by_effect space s (modifies who now it change fresh upsert (matching it (docs_of space s)))
+meant who now (FindAndModify space it order change fresh upsert shape) s =
+    by_effect space s (modifies who now it change fresh upsert shape (sorted order (matching it (docs_of space s))))
 
 -- one step: that, or want of memory or a fault, which change nothing
 abbrev pub step : Who → ℕ → Op → Store → OpReply → Store → Type 0

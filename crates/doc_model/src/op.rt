@@ -1,13 +1,20 @@
 use bson_values::{Document, List, Space, Value};
 use case_tables::Kind;
 use doc_paths::Path;
+use doc_shape::{Order, Shape};
 use filter_syntax::Filter;
 use update_syntax::Update;
 
-/// Which documents of a collection are shown.
+/// Which documents of a collection are shown, in which order and shape: those that the filter holds of, sorted, past the first `skip` and up
+/// to `limit`, where that is not 0. With `cut` they are cut to a batch of at most so many, and 16,777,216 bytes.
 #[derive(Drop)]
 pub struct Query {
     pub filter: Filter,
+    pub order: Order,
+    pub skip: u64,
+    pub limit: u64,
+    pub shape: Shape,
+    pub cut: Option<u64>,
 }
 
 /// What is done to the document that is found and told.
@@ -25,7 +32,7 @@ pub enum Op {
         space: Space,
         doc: Document,
     },
-    /// To show the documents of a collection that a filter holds of.
+    /// To show documents of a collection.
     Find {
         space: Space,
         query: Query,
@@ -58,14 +65,17 @@ pub enum Op {
         filter: Filter,
         one: bool,
     },
-    /// To remove or change the first document that a filter holds of, and to show it as it was, or as it is then with `fresh`. With
-    /// `upsert` a document is built and inserted where the filter holds of none. `fresh` and `upsert` say nothing of a removal.
+    /// To remove or change the first document, in this order, that a filter holds of, and to show it in a shape as it was, or as it is then
+    /// with `fresh`. With `upsert` a document is built and inserted where the filter holds of none. `fresh` and `upsert` say nothing of a
+    /// removal.
     FindAndModify {
         space: Space,
         filter: Filter,
+        order: Order,
         change: Modify,
         fresh: bool,
         upsert: bool,
+        shape: Shape,
     },
 }
 
@@ -73,7 +83,7 @@ pub enum Op {
 #[derive(Drop)]
 pub enum OpReply {
     Inserted,
-    /// The documents that were asked for, in the order of their insertion.
+    /// The documents that were asked for: in the order that was asked for, and else in that of their insertion.
     Selected(List<Document>),
     /// How many documents there are.
     Counted(u64),

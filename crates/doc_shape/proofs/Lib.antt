@@ -1,9 +1,11 @@
 pub mod Arrays
 pub mod Cutting
 pub mod Firsts
+pub mod Kept
 pub mod Layers
 pub mod Neighbours
 pub mod Orders
 pub mod Placed
+pub mod Smaller
 pub mod Stable
 pub mod Tails

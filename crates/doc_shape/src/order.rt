@@ -1,4 +1,4 @@
-ghost use Rattle.std.specs.Prelude.{◌≡◌, ◌++◌, ◌∷◌, [], IfOk, IfErr, Ok};
+ghost use Rattle.std.specs.Prelude.{◌≡◌, ◌++◌, ◌∷◌, [], IfOk, IfErr, Ok, length, nat_eq};
 ghost use Rattle.doc_shape.specs.Answers.{Adds, Fails, Gives};
 ghost use Rattle.doc_shape.specs.Reading.{number_way, pair_way, read_order, way_of};
 ghost use Rattle.bson_values.specs.declared.value.Value.{out-Value};
@@ -122,6 +122,13 @@ impl Order {
             Ok(ways) => Ok(Order { ways }),
             Err(why) => Err(why),
         }
+    }
+
+    /// Whether it sorts by no path, so that documents stay in their order.
+    pub fn is_empty(&self) -> bool
+        ensures { result ≡ nat_eq (length self.now) 0 }
+    {
+        self.ways.as_slice().len() == 0
     }
 
     pub(crate) fn ways(&self) -> &[Way]

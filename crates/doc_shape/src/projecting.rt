@@ -1,13 +1,14 @@
 //! What is shown of a document. The paths that lead to a value stand side by side, since all of them do, and are told by how many parts
 //! of them are behind it; so those that lead on to a field are found by halves.
 
-ghost use Rattle.std.specs.Prelude.{◌≡◌, ◌&&◌, ◌<◌, ◌∷◌, ◌++◌, [], ◌+◌, suc, true, not, map, length, drop, OnOk, IfOk, Some, nat_eq};
+ghost use Rattle.std.specs.Prelude.{◌≡◌, ◌&&◌, ◌<◌, ◌≤◌, ◌∷◌, ◌++◌, [], ◌+◌, suc, true, not, map, length, drop, OnOk, IfOk, Some};
 ghost use Rattle.std.specs.Prelude.{if◌then◌else◌};
 ghost use Rattle.std.specs.List.{flat_map};
 ghost use Rattle.doc_shape.specs.Clashes.{rises};
 ghost use Rattle.doc_shape.specs.Cuts.{up_to, before, none_before, tails};
 ghost use Rattle.doc_shape.specs.Shown.{behind, field, named, shown, shown_at, shown_field, shown_pair, shown_value, some_if, some_of};
-ghost use Rattle.doc_shape.specs.Shown.{is_id_name, nothing_hidden};
+ghost use Rattle.doc_shape.specs.Shown.{is_id_name};
+ghost use Rattle.bson_values.specs.Measures.{size};
 ghost use Rattle.bson_values.specs.declared.value.Value.TheVariants as value;
 
 use crate::shape::Shape;
@@ -272,18 +273,13 @@ fn shown_fields(alloc: Global, shape: &Shape, doc: &Document) -> Result<List<Pai
     Ok(out)
 }
 
-fn shows_all(shape: &Shape) -> bool
-    ensures { result ≡ nothing_hidden shape.now }
-{
-    !shape.includes && shape.keeps_id && shape.paths.as_slice().len() == 0
-}
-
 /// The document, of which only what the shape names is shown, or what it does not name.
-#[tactic(auto, using(crate::proofs::Layers::all_shown))]
+#[tactic(auto, using(crate::proofs::Layers::all_shown, crate::proofs::Smaller::sizes))]
 pub fn project(alloc: Global, shape: &Shape, doc: &Document) -> Result<Document, NoMemory>
-    ensures { IfOk result (λ it. it ≡ shown shape.now doc.now) }
+    ensures value { IfOk result (λ it. it ≡ shown shape.now doc.now) }
+    ensures smaller { IfOk result (λ it. size it ≤ size doc.now) }
 {
-    if shows_all(shape) {
+    if shape.shows_all() {
         return doc.copy(alloc);
     }
     let pairs = shown_fields(alloc, shape, doc)?;

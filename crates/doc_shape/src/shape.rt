@@ -5,6 +5,7 @@ ghost use Rattle.doc_shape.specs.Answers.{Fails, Gives};
 ghost use Rattle.doc_shape.specs.Clashes.{any_clash};
 ghost use Rattle.doc_shape.specs.Reading.{includes_by, is_bad, is_id, is_other, pair_shown, read_shape, shape_of, shown_of};
 ghost use Rattle.doc_shape.specs.Reading.{shown_paths, shows, hides};
+ghost use Rattle.doc_shape.specs.Shown.{nothing_hidden};
 
 use crate::clashing::{Rising, neighbours_clash};
 use crate::reading::read_path;
@@ -176,5 +177,12 @@ impl Shape {
             Ok(ways) => fitted(alloc, ways.as_slice()),
             Err(why) => Err(why),
         }
+    }
+
+    /// Whether it names nothing that is hidden or shown, so that documents are shown whole.
+    pub fn shows_all(&self) -> bool
+        ensures { result ≡ nothing_hidden self.now }
+    {
+        !self.includes && self.keeps_id && self.paths.as_slice().len() == 0
     }
 }

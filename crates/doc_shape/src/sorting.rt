@@ -147,7 +147,7 @@ pub fn sort_stably(alloc: Global, order: &Order, docs: &mut List<Document>) -> R
     ensures ok { OnOk result (docs.new ≡ sorted order.now docs.old) }
     ensures err { OnErr result (docs.new ≡ docs.old) }
 {
-    if order.ways().len() == 0 {
+    if order.is_empty() {
         return Ok(());
     }
     *docs = sorted_docs(alloc, order.ways(), docs.as_slice())?;

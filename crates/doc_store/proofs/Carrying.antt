@@ -19,12 +19,12 @@ use Rattle.doc_history.specs.Part.{Views}
 use Rattle.doc_history.specs.Told.{Tcall}
 use Rattle.doc_history.proofs.Going.{append-nil}
 use Rattle.doc_store.specs.Carried.{Carried, Carries, CarryAt}
-use Rattle.doc_store.specs.Replies.{op_of}
-use Rattle.doc_store.specs.Deeds.{op_done}
-use Rattle.doc_store.specs.declared.deeds.Deed.{Deed}
-use Rattle.doc_store.specs.declared.deeds.Deed.TheVariants as deed
-use Rattle.doc_store.specs.declared.reading.Aim.{Aim}
-use Rattle.doc_store.specs.declared.reading.Aim.TheVariants as aim
+use Rattle.doc_effects.specs.Replies.{op_of}
+use Rattle.doc_effects.specs.Deeds.{op_done}
+use Rattle.doc_effects.specs.declared.deeds.Deed.{Deed}
+use Rattle.doc_effects.specs.declared.deeds.Deed.TheVariants as deed
+use Rattle.doc_effects.specs.declared.aims.Aim.{Aim}
+use Rattle.doc_effects.specs.declared.aims.Aim.TheVariants as aim
 
 -- it made none
 none-carries : (by : Op) (i : ℕ) (es : List Tcall) → CarryAt (is_own []) by i es
@@ -112,7 +112,7 @@ carried-on by a b c p q =
 -- a selection by the condition of the filter
 pub aim-carries : (it : Aim) (space : Space) (by : Filter) (asked : Cond) → asked ≡ cond by
     → Carries (op_of it space by) (call.SelectNamed space asked)
-aim-carries aim.Documents space by asked is = ap Some is
+aim-carries (aim.Documents show) space by asked is = ap Some is
 aim-carries (aim.Number skip limit) space by asked is = ap Some is
 aim-carries (aim.Values path) space by asked is = ap Some is
 
@@ -120,4 +120,4 @@ pub deed-carries : (it : Deed) (space : Space) (by : Filter) (asked : Cond) → 
     → Carries (op_done it space by) (call.SelectNamed space asked)
 deed-carries (deed.Update update multi upsert) space by asked is = ap Some is
 deed-carries (deed.Delete one) space by asked is = ap Some is
-deed-carries (deed.Modify change fresh upsert) space by asked is = ap Some is
+deed-carries (deed.Modify order change fresh upsert shape) space by asked is = ap Some is

@@ -3,7 +3,7 @@ use Rattle.std.proofs.Common.{◌≡◌, ◌⊎◌, inl, inr, ℕ, refl}
 use Rattle.std.specs.Prelude.{Option, Some}
 use Rattle.doc_model.specs.declared.op.OpReply.{OpReply}
 use Rattle.doc_model.specs.declared.op.OpReply.TheVariants.{Inserted, Selected, Counted, Values, Updated, Deleted, Modified, Refused, Fault, NoMemory}
-use Rattle.doc_store.specs.Replies.{Declines}
+use Rattle.doc_effects.specs.Replies.{Declines}
 
 pub declined : (words : Option ℕ) (reply : OpReply) → Declines words reply
     → (reply ≡ NoMemory) ⊎ ((kind : ℕ) × (words ≡ Some kind) × (reply ≡ Refused kind))

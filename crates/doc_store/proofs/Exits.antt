@@ -29,15 +29,16 @@ use Rattle.doc_history.specs.Docs.{docs, docs_in_rows}
 use Rattle.doc_history.specs.Part.{Views}
 use Rattle.doc_store.specs.Attempts.{AddsNamed, AddsRow, Changes, Commits, FitsEnd, Tells, TellsEnd, ending_of, selection_of, untried, untried_by}
 use Rattle.doc_store.specs.Carried.{Carried}
-use Rattle.doc_store.specs.Deeds.{effect_of, op_done}
+use Rattle.doc_effects.specs.Deeds.{effect_of, op_done}
 use Rattle.doc_store.specs.Ended.{Comes, Ended, Tried}
-use Rattle.doc_store.specs.Outcomes.{Adds, IsAnswer, Makes, Settles}
-use Rattle.doc_store.specs.Replies.{Fits, added_reply}
+use Rattle.doc_effects.specs.Outcomes.{Adds, IsAnswer, Makes, Settles}
+use Rattle.doc_effects.specs.Replies.{Fits}
+use Rattle.doc_store.specs.Replies.{added_reply}
 use Rattle.doc_store.specs.declared.changing.Selection.TheVariants as selection
 use Rattle.doc_store.specs.declared.changing.Tries.{Tries}
 use Rattle.doc_store.specs.declared.changing.Tries.TheVariants.{Ends, Again}
-use Rattle.doc_store.specs.declared.deeds.Deed.{Deed}
-use Rattle.doc_store.specs.declared.deeds.Outcome.{Outcome}
+use Rattle.doc_effects.specs.declared.deeds.Deed.{Deed}
+use Rattle.doc_effects.specs.declared.deeds.Outcome.{Outcome}
 use Rattle.doc_store.proofs.Carrying.{carried-call, carried-on}
 use Rattle.doc_store.proofs.Found.{Law}
 use Rattle.doc_store.proofs.Made.{Made, made}

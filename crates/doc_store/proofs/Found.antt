@@ -35,12 +35,13 @@ use Rattle.doc_model.specs.Step.{matching, meant, step, valued}
 use Rattle.doc_model.specs.Store.{Store, collection_of, docs_in, docs_of}
 use Rattle.doc_history.specs.Docs.{doc_of, docs, docs_in_rows, docs_at, collections}
 use Rattle.doc_store.specs.Ended.{Comes}
-use Rattle.doc_store.specs.Replies.{Answers, AreComing, Reads, op_of, rows_of, shown}
-use Rattle.doc_store.specs.Rows.{AreSound}
-use Rattle.doc_store.specs.declared.reading.Aim.{Aim}
-use Rattle.doc_store.specs.declared.reading.Aim.TheVariants as aim
+use Rattle.doc_effects.specs.Replies.{Answers, op_of, answer_to}
+use Rattle.doc_store.specs.Replies.{AreComing, Reads, rows_of}
+use Rattle.doc_effects.specs.Rows.{AreSound}
+use Rattle.doc_effects.specs.declared.aims.Aim.{Aim}
+use Rattle.doc_effects.specs.declared.aims.Aim.TheVariants as aim
 use Rattle.doc_store.proofs.Collections.{collection_at, collection-found}
-use Rattle.doc_store.proofs.Keys.{doc_sound}
+use Rattle.doc_effects.proofs.Keys.{doc_sound}
 use Rattle.doc_store.proofs.Steps.{by-reply, no-fault}
 
 -- ---- rows as the law on pushed conditions has them
@@ -142,8 +143,8 @@ valued-step who now by s values is = cases (nat_le (value_size (Arr values)) 167
     cases true e = let as_values = rw e at is in rw e as_values
     cases false e = let as_refused = rw e at is in rw e as_refused
 
-never-fault : (it : Aim) (docs : List Doc) → shown it docs ≡ told.Fault → ⊥
-never-fault aim.Documents docs e = cc e
+never-fault : (it : Aim) (docs : List Doc) → answer_to it docs ≡ told.Fault → ⊥
+never-fault (aim.Documents show) docs e = cc e
 never-fault (aim.Number skip limit) docs e = cc e
 never-fault (aim.Values path) docs e = cases (nat_le (value_size (Arr (distinct path docs))) 16777216) refl
   where
@@ -168,8 +169,8 @@ module _ (law : Law) (who : Who) (now : ℕ) (it : Aim) (space : Space) (by : Fi
   done r = record { who = who; now = now; op = op_of it space by; reply = r }
 
   shown-step : (one : Aim) (s : Store) (found : List Doc) → found ≡ matching by (docs_of space s)
-      → step who now (op_of one space by) s (shown one found) s
-  shown-step aim.Documents s found is = rw is refl
+      → step who now (op_of one space by) s (answer_to one found) s
+  shown-step (aim.Documents show) s found is = rw is refl
   shown-step (aim.Number skip limit) s found is = rw is refl
   shown-step (aim.Values path) s found is = valued-step who now (op.Distinct space path by) s (distinct path found) (rw is refl)
 
@@ -183,14 +184,14 @@ module _ (law : Law) (who : Who) (now : ℕ) (it : Aim) (space : Space) (by : Fi
   told-none s q answer none e = subst (λ (a : OpReply). Comes (done a) s s q) (sym e) (wants s q none)
 
   told-shown : (s : Tables) (q : TableReply) (found : List Doc) (answer : OpReply) → (q ≡ reply.Fault → ⊥)
-      → found ≡ matching by (docs_of space (docs s)) → answer ≡ shown it found → Comes (done answer) s s q
+      → found ≡ matching by (docs_of space (docs s)) → answer ≡ answer_to it found → Comes (done answer) s s q
   told-shown s q found answer none is e =
       subst (λ (a : OpReply). Comes (done a) s s q) (sym e) (shown-step it (docs s) found is, no-fault (never-fault it found) none)
 
   tells : (s : Tables) (q : TableReply) (found : List Doc) (answer : OpReply) → (q ≡ reply.Fault → ⊥)
-      → found ≡ matching by (docs_of space (docs s)) → Answers answer (shown it found) → Comes (done answer) s s q
+      → found ≡ matching by (docs_of space (docs s)) → Answers answer (answer_to it found) → Comes (done answer) s s q
   tells s q found answer none is given =
-      ⊎_elim (told-none s q answer none) (told-shown s q found answer none is) (either-way answer (shown it found) given)
+      ⊎_elim (told-none s q answer none) (told-shown s q found answer none is) (either-way answer (answer_to it found) given)
 
   read-meant : (s : Tables) (o : Option Table) → Sound s → named space s.live ≡ o → (answer : OpReply)
       → Reads it by (rows_of (selects (cond by) reply.Absent s o).reply) answer

@@ -1,10 +1,3 @@
-pub mod Completed
-pub mod Plain
-pub mod Keys
-pub mod Renewing
-pub mod Editing
-pub mod Upserting
-pub mod Ending
 pub mod Collections
 pub mod Lefts
 pub mod Trying
@@ -17,4 +10,3 @@ pub mod Settled
 pub mod Declined
 pub mod Carrying
 pub mod Exits
-pub mod Sizes

@@ -16,9 +16,9 @@ use Rattle.table_words.proofs.Rows.{sound-replaced, sound-removed}
 use Rattle.doc_model.specs.Change.{with_new, exchanged, without_old, without_any}
 use Rattle.doc_model.specs.Store.{same_id, has_id}
 use Rattle.doc_history.specs.Docs.{doc_of, docs_at}
-use Rattle.doc_store.specs.Outcomes.{IsKept, IsKeyOf, AreEdits}
-use Rattle.doc_store.specs.Rows.{IsRowFor}
-use Rattle.doc_store.proofs.Keys.{plain_id, row_id, doc_sound}
+use Rattle.doc_effects.specs.Outcomes.{IsKept, IsKeyOf, AreEdits}
+use Rattle.doc_effects.specs.Rows.{IsRowFor}
+use Rattle.doc_effects.proofs.Keys.{plain_id, row_id, doc_sound}
 use Rattle.bson_values.specs.declared.value.Value.{Value}
 
 -- the row that was made for a document keeps it

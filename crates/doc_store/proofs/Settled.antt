@@ -6,6 +6,7 @@ use Rattle.std.proofs.lemmas.Bool.{eqb-true}
 use Rattle.std_words.proofs.Tests.{and-both}
 use Rattle.history_lock.specs.declared.entry.Who.{Who}
 use Rattle.bson_values.specs.declared.space.Space.{Space}
+use Rattle.doc_shape.specs.Shown.{shown}
 use Rattle.filter_syntax.specs.Meaning.{Doc}
 use Rattle.filter_syntax.specs.declared.filter.Filter.{Filter}
 use Rattle.jsonb_contain.specs.declared.cond.Cond.{Cond}
@@ -34,15 +35,15 @@ use Rattle.doc_model.specs.Store.{collection_of, docs_of, docs_in, has_id, with_
 use Rattle.doc_history.specs.Docs.{docs_at, docs, docs_in_rows, collection, collections}
 use Rattle.doc_history.proofs.Going.{append-nil}
 use Rattle.doc_store.specs.Attempts.{ending_of, rests}
-use Rattle.doc_store.specs.Deeds.{effect_of, op_done}
+use Rattle.doc_effects.specs.Deeds.{effect_of, op_done}
 use Rattle.doc_store.specs.Ended.{Comes}
-use Rattle.doc_store.specs.Outcomes.{Adds, AreEdits, IsAnswer, IsKept, Makes, Settles}
+use Rattle.doc_effects.specs.Outcomes.{Adds, AreEdits, IsAnswer, IsKept, Makes, Settles}
 use Rattle.doc_store.specs.Replies.{added_reply}
 use Rattle.doc_store.specs.declared.changing.Tries.{Tries}
 use Rattle.doc_store.specs.declared.changing.Tries.TheVariants.{Ends, Again}
-use Rattle.doc_store.specs.declared.deeds.Deed.{Deed}
-use Rattle.doc_store.specs.declared.deeds.Deed.TheVariants as deed
-use Rattle.doc_store.specs.declared.deeds.Outcome.{Outcome}
+use Rattle.doc_effects.specs.declared.deeds.Deed.{Deed}
+use Rattle.doc_effects.specs.declared.deeds.Deed.TheVariants as deed
+use Rattle.doc_effects.specs.declared.deeds.Outcome.{Outcome}
 use Rattle.doc_store.proofs.Collections.{collection_at, collection-found, docs-append}
 use Rattle.doc_store.proofs.Found.{Law, found-selected, live-rows, unkept}
 use Rattle.doc_store.proofs.Renewed.{kept-key, edited-docs}
@@ -115,7 +116,7 @@ module _ (law : Law) (who : Who) (now : ℕ) (space : Space) (by : Filter) (it :
       ≡ model.by_effect space (docs s) (effect_of who now by one (model.matching by (docs_of space (docs s))))
   meant-deed (deed.Update update multi upsert) s = refl
   meant-deed (deed.Delete one) s = refl
-  meant-deed (deed.Modify change fresh upsert) s = refl
+  meant-deed (deed.Modify order change fresh upsert shape) s = refl
 
   docs-there : (s : Tables) (o : Option Table) → named space s.live ≡ o → docs_of space (docs s) ≡ docs_in (collection_at o)
   docs-there s o at = ap docs_in (collection-found space s.live ∙ ap collection_at at)
@@ -346,10 +347,10 @@ module _ (law : Law) (who : Who) (now : ℕ) (space : Space) (by : Filter) (it :
   none-changed (deed.Update update multi true) effect is = none-built effect (λ doc. told.Updated 0 0 (id_in doc)) (built who now by update) is
   none-changed (deed.Delete true) effect is = none-only effect (told.Deleted 0) is
   none-changed (deed.Delete false) effect is = none-only effect (told.Deleted 0) is
-  none-changed (deed.Modify Remove fresh upsert) effect is = none-only effect (told.Modified false None None) is
-  none-changed (deed.Modify (Change update) fresh false) effect is = none-only effect (told.Modified false None None) is
-  none-changed (deed.Modify (Change update) fresh true) effect is =
-      none-built effect (λ doc. told.Modified false (id_in doc) (if fresh then Some doc else None)) (built who now by update) is
+  none-changed (deed.Modify order Remove fresh upsert shape) effect is = none-only effect (told.Modified false None None) is
+  none-changed (deed.Modify order (Change update) fresh false shape) effect is = none-only effect (told.Modified false None None) is
+  none-changed (deed.Modify order (Change update) fresh true shape) effect is =
+      none-built effect (λ doc. told.Modified false (id_in doc) (if fresh then Some (shown shape doc) else None)) (built who now by update) is
 
   none-edits : (gone news : List Doc) (edits : List Edit) → model.is_none_of (gone ++ news) ≡ true → AreEdits gone news edits → edits ≡ []
   none-edits [] [] [] e are = refl

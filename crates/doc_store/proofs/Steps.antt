@@ -26,11 +26,11 @@ use Rattle.doc_model.specs.Step as model
 use Rattle.doc_model.specs.Store.{Store, collection_of, has_id, with_docs}
 use Rattle.doc_history.specs.Docs.{docs_at, docs, collection, collections}
 use Rattle.doc_store.specs.Ended.{Comes}
-use Rattle.doc_store.specs.Outcomes.{IsAnswer, IsKept}
+use Rattle.doc_effects.specs.Outcomes.{IsAnswer, IsKept}
 use Rattle.doc_store.specs.Replies.{added_reply}
 use Rattle.doc_store.proofs.Collections.{collection_at, collection-found, length-collections, docs-append, collections-last, collections-put}
 use Rattle.doc_store.proofs.Renewed.{kept-for, kept-key}
-use Rattle.doc_store.specs.Rows.{IsRowFor}
+use Rattle.doc_effects.specs.Rows.{IsRowFor}
 
 -- ---- replies
 

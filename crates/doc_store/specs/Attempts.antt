@@ -14,16 +14,17 @@ use Rattle.table_words.specs.declared.call.TableReply.TheVariants as reply
 use Rattle.doc_history.specs.Part.{Views}
 use Rattle.doc_history.specs.Docs.{docs_in_rows}
 use Rattle.doc_model.specs.Step.{matching}
-use Rattle.doc_store.specs.Deeds.{effect_of}
+use Rattle.doc_effects.specs.Deeds.{effect_of}
 use Rattle.doc_store.specs.Ended.{Tried, Ended}
-use Rattle.doc_store.specs.Outcomes.{IsAnswer, Settles}
-use Rattle.doc_store.specs.Replies.{Fits, added_reply}
+use Rattle.doc_effects.specs.Outcomes.{IsAnswer, Settles}
+use Rattle.doc_effects.specs.Replies.{Fits}
+use Rattle.doc_store.specs.Replies.{added_reply}
 use Rattle.doc_store.specs.declared.changing.Selection.{Selection}
 use Rattle.doc_store.specs.declared.changing.Selection.TheVariants as selection
 use Rattle.doc_store.specs.declared.changing.Tries.{Tries}
 use Rattle.doc_store.specs.declared.changing.Tries.TheVariants.{Ends, Again}
-use Rattle.doc_store.specs.declared.deeds.Deed.{Deed}
-use Rattle.doc_store.specs.declared.deeds.Outcome.{Outcome}
+use Rattle.doc_effects.specs.declared.deeds.Deed.{Deed}
+use Rattle.doc_effects.specs.declared.deeds.Outcome.{Outcome}
 use Rattle.table_rows.specs.declared.row.Row.{Row}
 
 abbrev pub selection_of : TableReply → Selection

@@ -18,7 +18,7 @@ filter_of (op.Count space it skip limit) = Some it
 filter_of (op.Distinct space path it) = Some it
 filter_of (op.Update space it update multi upsert) = Some it
 filter_of (op.Delete space it one) = Some it
-filter_of (op.FindAndModify space it change fresh upsert) = Some it
+filter_of (op.FindAndModify space it order change fresh upsert shape) = Some it
 
 -- a call that selects carries exactly the condition of the operation's filter
 abbrev pub Carries : Op → TableCall → Type 0

@@ -2,13 +2,7 @@
 #![tactic(auto)]
 
 mod changing;
-mod completing;
-mod deeds;
-mod edits;
 mod operation;
-mod outcomes;
 mod reading;
-mod rows;
-mod upserts;
 
 pub use operation::perform;

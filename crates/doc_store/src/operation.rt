@@ -5,15 +5,15 @@ ghost use Rattle.doc_model.specs.declared.op.Op.TheVariants as op;
 ghost use Rattle.doc_model.specs.Named.{IsNamed, IsRead};
 ghost use Rattle.doc_model.specs.Step.{Keeps};
 ghost use Rattle.doc_store.specs.Carried.{Carried};
-ghost use Rattle.doc_store.specs.Replies.{Fits, added_reply, op_asked};
+ghost use Rattle.doc_effects.specs.Replies.{Fits};
+ghost use Rattle.doc_store.specs.Replies.{added_reply, op_asked};
 
 use crate::changing::change;
-use crate::completing::stored;
-use crate::deeds::Deed;
-use crate::reading::{Aim, read};
+use crate::reading::read;
 use bson_values::{Document, Space};
 use case_tables::{DUPLICATE_KEY, NUMBERS_SPENT, TOO_MANY_COLLECTIONS};
-use doc_model::{Op, OpReply};
+use doc_effects::{Aim, Deed, Show, stored};
+use doc_model::{Op, OpReply, Query};
 use filter_syntax::Filter;
 use history_lock::Who;
 use std::alloc::Global;
@@ -85,11 +85,28 @@ fn parted(op: Op) -> Asked
 {
     match op {
         Op::Insert { space, doc } => Asked::Insert { space, doc },
-        Op::Find { space, query } => Asked::Read {
-            space,
-            filter: query.filter,
-            aim: Aim::Documents,
-        },
+        Op::Find { space, query } => {
+            let Query {
+                filter,
+                order,
+                skip,
+                limit,
+                shape,
+                cut,
+            } = query;
+            let show = Show {
+                order,
+                skip,
+                limit,
+                shape,
+                cut,
+            };
+            Asked::Read {
+                space,
+                filter,
+                aim: Aim::Documents(show),
+            }
+        }
         Op::Count {
             space,
             filter,
@@ -132,16 +149,20 @@ fn parted(op: Op) -> Asked
         Op::FindAndModify {
             space,
             filter,
+            order,
             change,
             fresh,
             upsert,
+            shape,
         } => Asked::Change {
             space,
             filter,
             deed: Deed::Modify {
+                order,
                 change,
                 fresh,
                 upsert,
+                shape,
             },
         },
     }

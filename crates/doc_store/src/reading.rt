@@ -1,75 +1,19 @@
 ghost use Rattle.std.specs.Prelude.{◌≡◌, ◌∷◌, ◌≤◌, ◌+◌, [], length};
-ghost use Rattle.doc_history.specs.Docs.{docs_in_rows};
 ghost use Rattle.doc_history.specs.Part.{Served};
-ghost use Rattle.doc_model.specs.Step.{Keeps, matching, valued};
+ghost use Rattle.doc_model.specs.Step.{Keeps};
 ghost use Rattle.doc_store.specs.Carried.{Carried};
-ghost use Rattle.doc_store.specs.Replies.{Answers, Fits, counted, op_of, rows_of, shown};
-ghost use Rattle.doc_store.specs.Rows.{AreSound};
+ghost use Rattle.doc_effects.specs.Replies.{Fits, op_of};
+ghost use Rattle.doc_store.specs.Replies.{rows_of};
 
-use crate::rows::{counted, found, values};
-use bson_values::{List, NoMemory, Space, Value};
-use case_tables::DOCUMENT_TOO_LARGE;
+use bson_values::{List, Space};
+use doc_effects::{Aim, answered};
 use doc_model::OpReply;
-use doc_paths::Path;
 use filter_syntax::Filter;
 use history_lock::Who;
 use pushdown::{cond_of, filtering_selected_rows_is_filtering_all};
 use std::alloc::Global;
 use table_rows::Row;
 use table_words::{TableCall, TableDesk, TableReply};
-
-/// What is asked of the documents that a filter holds of.
-#[derive(Drop)]
-pub(crate) enum Aim {
-    Documents,
-    Number { skip: u64, limit: u64 },
-    Values(Path),
-}
-
-/// How many are left past the first `skip`, and up to `limit`, where that is not 0.
-fn limited(skip: u64, limit: u64, count: u64) -> u64
-    ensures { result ≡ counted skip limit count }
-{
-    let rest = count.saturating_sub(skip);
-    if limit == 0 { rest } else { limit.min(rest) }
-}
-
-/// The most bytes of an array of values, as BSON 1.1 spells it.
-const MOST_BYTES: u64 = 16_777_216;
-
-fn valued(values: List<Value>) -> OpReply
-    ensures value { result ≡ valued values }
-    ensures fits { Fits result }
-{
-    if values.size() <= MOST_BYTES {
-        OpReply::Values(values)
-    } else {
-        OpReply::Refused(DOCUMENT_TOO_LARGE)
-    }
-}
-
-/// What is replied of the rows that a Select gave.
-#[tactic(auto, using(crate::proofs::Sizes::counted_is))]
-fn answered(alloc: Global, aim: &Aim, filter: &Filter, rows: &[Row]) -> OpReply
-    requires { AreSound rows.now }
-    ensures answers { Answers result (shown aim.now (matching filter.now (docs_in_rows rows.now))) }
-    ensures fits { Fits result }
-{
-    match aim {
-        Aim::Documents => match found(alloc, filter, rows) {
-            Ok(docs) => OpReply::Selected(docs),
-            Err(NoMemory) => OpReply::NoMemory,
-        },
-        Aim::Number { skip, limit } => match counted(alloc, filter, rows) {
-            Ok(count) => OpReply::Counted(limited(*skip, *limit, count)),
-            Err(NoMemory) => OpReply::NoMemory,
-        },
-        Aim::Values(path) => match values(alloc, path, filter, rows) {
-            Ok(values) => valued(values),
-            Err(NoMemory) => OpReply::NoMemory,
-        },
-    }
-}
 
 /// The rows that a Select was replied with, none of a table that is absent; nothing, where memory was wanting.
 fn rows_of(alloc: Global, reply: TableReply) -> Option<List<Row>>

@@ -1,15 +1,15 @@
 -- How long the documents of replies are.
-use Rattle.std.proofs.Common.{◌≡◌, ℕ, pos, ◌+◌, ◌*◌, ◌≤◌, Bool, true, false, cond, leb, eqb, List, [], ◌∷◌, ◌++◌, length, map, sym, ◌∙◌}
+use Rattle.std.proofs.Common.{◌≡◌, ℕ, pos, ◌+◌, ◌*◌, ◌<◌, ◌≤◌, Bool, true, false, cond, eqb, List, [], ◌∷◌, ◌++◌, length, map, sym, ◌∙◌}
 use Rattle.std.proofs.Common.{arith, length-append}
 use Rattle.std.specs.Prelude.{codes, Option, None, Some}
-use Rattle.std.proofs.lemmas.Bool.{leb-true}
-use Rattle.std_words.proofs.Tests.{and-both}
+use Rattle.std.specs.Fmt.{decimal}
+use Rattle.std.proofs.lemmas.Fmt.{length-decimal-le}
 use Rattle.bson_values.specs.declared.pairs.Pair.{Pair}
 use Rattle.bson_values.specs.declared.space.Space.{Space}
 use Rattle.bson_values.specs.declared.value.Value.{Value}
 use Rattle.bson_values.specs.declared.value.Value.TheVariants as value
 use Rattle.bson_values.specs.Measures.{items_size, value_size}
-use Rattle.bson_values.proofs.Totals.{digits_few, size_items}
+use Rattle.bson_values.proofs.Totals.{size_items, size_fields}
 use Rattle.bson_spelling.specs.declared.form.Form.TheVariants.{Bson}
 use Rattle.bson_wire.specs.Spelling.{spell, held}
 use Rattle.bson_wire.proofs.Measured.{value_measured}
@@ -49,31 +49,36 @@ sentence_short kind (Some code) =
     ))
     (omega (arith, text_short kind))
 
+-- each document has at least five bytes
+five_each : (docs : List (List (Pair Value))) → 5 * length docs ≤ total_size docs
+five_each [] = omega arith
+five_each (doc ∷ docs) = omega (arith, size_fields doc, five_each docs)
+
+seven_digits : (place : ℕ) → place < 10000000 → length (decimal place) ≤ 7
+seven_digits place few = length-decimal-le 7 place (omega arith) (omega (arith, few)) (omega (arith, few))
+
 -- documents as items, with their names
-items_short : (place : ℕ) (docs : List (List (Pair Value))) → place + length docs ≤ 1000
-    → items_size place (map value_size (map value.Doc docs)) ≤ total_size docs + 22 * length docs
+items_short : (place : ℕ) (docs : List (List (Pair Value))) → place + length docs < 10000000
+    → items_size place (map value_size (map value.Doc docs)) ≤ total_size docs + 9 * length docs
 items_short place [] few = omega arith
 items_short place (doc ∷ docs) few = omega
-    (arith, few, digits_few place (omega (arith, few)), items_short (place + 1) docs (omega (arith, few)))
+    (arith, few, seven_digits place (omega (arith, few)), items_short (place + 1) docs (omega (arith, few)))
 
 cursor_short : (space : Space) (docs : List (List (Pair Value))) → IsSmall (Batch space docs)
-    → length (spell (cursor space docs)) ≤ 16780000
+    → length (spell (cursor space docs)) ≤ 46977000
 cursor_short space docs small =
     let items = map value.Doc docs in
     let one : List (Pair Value) = field "firstBatch" (value.Arr (map value.Doc docs)) ∷ [] in
     let two : List (Pair Value) = one ++ field "id" (value.Long (pos 0)) ∷ [] in
-    let both = and-both (leb (length docs) 101) (leb (total_size docs) 16777216) small.0 in
-    let count : length docs ≤ 101 = leb-true _ _ both.0 in
-    let bytes : total_size docs ≤ 16777216 = leb-true _ _ both.1 in
     omega (
       arith,
-      count,
-      bytes,
+      small.0,
+      five_each docs,
       spell-push [] (codes "firstBatch") (value.Arr items),
       spell-push one (codes "id") (value.Long (pos 0)),
       spell-push two (codes "ns") (value.Str (namespace space)),
       size-Arr items,
-      items_short 0 docs (omega (arith, count)),
+      items_short 0 docs (omega (arith, small.0, five_each docs)),
       size-Long (pos 0),
       size-Str (namespace space),
       small.1,

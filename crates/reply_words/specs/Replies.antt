@@ -141,6 +141,6 @@ abbrev pub total_size : List (List (Pair Value)) → ℕ
 total_size [] = 0
 total_size (doc ∷ docs) = size doc + total_size docs
 
--- the documents go into one batch: at most 101 of them, of at most 16,777,216 bytes
-abbrev pub fit_a_batch : List (List (Pair Value)) → Bool
-fit_a_batch docs = nat_le (length docs) 101 && nat_le (total_size docs) 16777216
+-- the documents go into one batch of at most so many of them, of at most 16,777,216 bytes
+abbrev pub fit_a_batch : ℕ → List (List (Pair Value)) → Bool
+fit_a_batch most docs = nat_le (length docs) most && nat_le (total_size docs) 16777216

@@ -1,5 +1,5 @@
 -- Which replies are so small that they can be sent, and how large one is that tells of changes. Links between contracts.
-use Rattle.std.specs.Prelude.{ℕ, ◌≡◌, ◌≤◌, ◌+◌, ◌*◌, Bool, true, false, List, All, Option, IfSome, length}
+use Rattle.std.specs.Prelude.{ℕ, ◌≤◌, ◌+◌, ◌*◌, Bool, true, false, List, All, Option, IfSome, length}
 use Rattle.bson_values.specs.declared.pairs.Pair.{Pair}
 use Rattle.bson_values.specs.declared.value.Value.{Value}
 use Rattle.bson_values.specs.declared.value.Value.TheVariants.{Arr}
@@ -10,12 +10,12 @@ use Rattle.reply_words.specs.declared.ends.ItemEnd.{ItemEnd}
 use Rattle.reply_words.specs.declared.ends.ItemEnd.TheVariants as ended
 use Rattle.reply_words.specs.declared.replies.Reply.{Reply}
 use Rattle.reply_words.specs.declared.replies.Reply.TheVariants.{Batch, Values}
-use Rattle.reply_words.specs.Replies.{namespace, fit_a_batch}
+use Rattle.reply_words.specs.Replies.{namespace, total_size}
 
--- a batch is one, of a collection whose full name has at most 255 bytes; values are an array of at most 16,777,216 bytes; every
--- other reply is small
+-- the documents of a batch have at most 16,777,216 bytes, and the full name of its collection has at most 255; values are an array of at
+-- most 16,777,216 bytes; every other reply is small
 abbrev pub IsSmall : Reply → Type 0
-IsSmall (Batch space docs) = (fit_a_batch docs ≡ true) × (length (namespace space) ≤ 255)
+IsSmall (Batch space docs) = (total_size docs ≤ 16777216) × (length (namespace space) ≤ 255)
 IsSmall (Values values) = value_size (Arr values) ≤ 16777216
 IsSmall reply = Unit {0}
 

@@ -7,17 +7,14 @@ use crate::fields::add;
 use bson_values::{Document, List, NoMemory, Space, Text, Value};
 use std::alloc::Global;
 
-/// The most documents of one batch.
-const MOST_DOCUMENTS: usize = 101;
-
 /// The most bytes that the documents of one batch take.
 const MOST_BYTES: u64 = 16_777_216;
 
-/// Whether the documents go into one batch.
-pub fn fit_a_batch(docs: &[Document]) -> bool
-    ensures { result ≡ fit_a_batch docs.now }
+/// Whether the documents go into one batch: at most `most` of them, of at most 16,777,216 bytes.
+pub fn fit_a_batch(most: u64, docs: &[Document]) -> bool
+    ensures { result ≡ fit_a_batch most docs.now }
 {
-    docs.len() <= MOST_DOCUMENTS && total_size(docs) <= MOST_BYTES
+    docs.len() as u64 <= most && total_size(docs) <= MOST_BYTES
 }
 
 fn total_size(docs: &[Document]) -> u64

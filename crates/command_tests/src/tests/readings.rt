@@ -22,7 +22,12 @@ enum Asked {
         fresh: bool,
         upsert: bool,
     },
-    Find,
+    Find {
+        skip: u64,
+        limit: u64,
+        cut: Option<u64>,
+        batch: u64,
+    },
     Count {
         skip: u64,
         limit: u64,
@@ -68,7 +73,6 @@ fn done(op: &Op) -> Asked {
             fresh: *fresh,
             upsert: *upsert,
         },
-        Op::Find { space, .. } if is_on(space) => Asked::Find,
         Op::Count {
             space,
             skip,
@@ -79,6 +83,18 @@ fn done(op: &Op) -> Asked {
             limit: *limit,
         },
         Op::Distinct { space, path, .. } if is_on(space) => Asked::Distinct(path.parts().len()),
+        _ => Asked::Other,
+    }
+}
+
+fn found(op: &Op, batch: u64) -> Asked {
+    match op {
+        Op::Find { space, query } if is_on(space) => Asked::Find {
+            skip: query.skip,
+            limit: query.limit,
+            cut: query.cut,
+            batch,
+        },
         _ => Asked::Other,
     }
 }
@@ -98,7 +114,7 @@ fn command_asks(command: &Command) -> Asked {
         Command::Update { ops, .. } => only(ops),
         Command::Delete { ops, .. } => only(ops),
         Command::FindAndModify { op } => done(op),
-        Command::Find { op } => done(op),
+        Command::Find { op, batch } => found(op, *batch),
         Command::Count { op } => done(op),
         Command::Distinct { op } => done(op),
     }
@@ -112,7 +128,7 @@ fn meant(alloc: Global, words: Words) -> Option<Asked> {
 }
 
 /// Messages, and what they mean.
-static ACCEPTED: [(Words, Asked); 20] = [
+static ACCEPTED: [(Words, Asked); 22] = [
     (
         (r#"{insert: "c", documents: [{_id: 1}], $db: "t"}"#, "{}"),
         Asked::Insert(1),
@@ -206,8 +222,50 @@ static ACCEPTED: [(Words, Asked); 20] = [
             upsert: true,
         },
     ),
-    ((r#"{find: "c", $db: "t"}"#, "{}"), Asked::Find),
-    ((r#"{find: "c", filter: {}, $db: "t"}"#, "{}"), Asked::Find),
+    (
+        (
+            r#"{findAndModify: "c", remove: true, sort: {a: 1}, fields: {b: 0}, $db: "t"}"#,
+            "{}",
+        ),
+        Asked::FindAndModify {
+            removes: true,
+            fresh: false,
+            upsert: false,
+        },
+    ),
+    (
+        (r#"{find: "c", $db: "t"}"#, "{}"),
+        Asked::Find {
+            skip: 0,
+            limit: 0,
+            cut: None,
+            batch: 101,
+        },
+    ),
+    (
+        (
+            r#"{find: "c", filter: {}, sort: {a: -1}, projection: {b: 1}, skip: 3L, limit: 4, batchSize: 0, singleBatch: 0, $db: "t"}"#,
+            "{}",
+        ),
+        Asked::Find {
+            skip: 3,
+            limit: 4,
+            cut: None,
+            batch: 0,
+        },
+    ),
+    (
+        (
+            r#"{find: "c", batchSize: 2, singleBatch: true, $db: "t"}"#,
+            "{}",
+        ),
+        Asked::Find {
+            skip: 0,
+            limit: 0,
+            cut: Some(2),
+            batch: 2,
+        },
+    ),
     ((r#"{ping: 1, $db: "admin"}"#, "{}"), Asked::Ping),
     (
         (r#"{ping: 1, $db: "admin"}"#, "{x: [{_id: 1}]}"),

@@ -234,17 +234,6 @@ static MODIFIES: Rows = &[
     ),
     ((r#"{findAndModify: "$c", $db: "t"}"#, "{}"), 27),
     (
-        (r#"{findAndModify: "c", sort: {a: 1}, $db: "t"}"#, "{}"),
-        29,
-    ),
-    (
-        (
-            r#"{findAndModify: "c", remove: true, fields: {a: 1}, $db: "t"}"#,
-            "{}",
-        ),
-        29,
-    ),
-    (
         (
             r#"{findandmodify: "c", findAndModify: "c", remove: true, $db: "t"}"#,
             "{}",
@@ -285,12 +274,6 @@ static OPERANDS: Rows = &[
         3,
     ),
     ((r#"{find: "c", filter: {"a..b": 1}, $db: "t"}"#, "{}"), 9),
-    ((r#"{find: "c", sort: {a: 1}, $db: "t"}"#, "{}"), 29),
-    ((r#"{find: "c", projection: {a: 1}, $db: "t"}"#, "{}"), 29),
-    ((r#"{find: "c", skip: 1, $db: "t"}"#, "{}"), 29),
-    ((r#"{find: "c", limit: 1, $db: "t"}"#, "{}"), 29),
-    ((r#"{find: "c", batchSize: 1, $db: "t"}"#, "{}"), 29),
-    ((r#"{find: "c", singleBatch: true, $db: "t"}"#, "{}"), 29),
     (
         (
             r#"{count: "c", query: {a: 1}, skip: 2, limit: -3L, $db: "t"}"#,
@@ -343,9 +326,98 @@ static OPERANDS: Rows = &[
     ),
 ];
 
+/// Sorts, projections and batches.
+static SHAPES: Rows = &[
+    (
+        (
+            concat!(
+                r#"{find: "c", sort: {a: 1, b: 1, c: 1, d: 1, e: 1, f: 1, g: 1, h: 1, a: 1, b: 1, c: 1, d: 1, e: 1, f: 1, g: 1, h: 1, "#,
+                r#"a: 1, b: 1, c: 1, d: 1, e: 1, f: 1, g: 1, h: 1, a: 1, b: 1, c: 1, d: 1, e: 1, f: 1, g: 1, h: 1, i: 1}, $db: "t"}"#
+            ),
+            "{}",
+        ),
+        4,
+    ),
+    ((r#"{find: "c", sort: {a: 2}, $db: "t"}"#, "{}"), 4),
+    (
+        (r#"{find: "c", sort: {a: {$meta: "x"}}, $db: "t"}"#, "{}"),
+        29,
+    ),
+    ((r#"{find: "c", sort: {"a..b": 1}, $db: "t"}"#, "{}"), 9),
+    (
+        (r#"{find: "c", projection: {a: 1, b: 0}, $db: "t"}"#, "{}"),
+        11,
+    ),
+    (
+        (
+            r#"{find: "c", projection: {a: 1, "a.b": 1}, $db: "t"}"#,
+            "{}",
+        ),
+        11,
+    ),
+    (
+        (
+            r#"{find: "c", projection: {a: {$slice: 1}}, $db: "t"}"#,
+            "{}",
+        ),
+        29,
+    ),
+    ((r#"{find: "c", projection: {a: null}, $db: "t"}"#, "{}"), 4),
+    ((r#"{find: "c", skip: -1, $db: "t"}"#, "{}"), 8),
+    ((r#"{find: "c", limit: -1L, $db: "t"}"#, "{}"), 8),
+    ((r#"{find: "c", batchSize: -1, $db: "t"}"#, "{}"), 8),
+    ((r#"{find: "c", sort: [], $db: "t"}"#, "{}"), 17),
+    ((r#"{find: "c", singleBatch: "x", $db: "t"}"#, "{}"), 17),
+    ((r#"{find: "c", collation: {}, $db: "t"}"#, "{}"), 29),
+    // The filter is read before the sort, and that before the projection.
+    (
+        (
+            r#"{find: "c", projection: {a: 1, b: 0}, sort: {"a..b": 1}, filter: {$foo: 1}, $db: "t"}"#,
+            "{}",
+        ),
+        3,
+    ),
+    (
+        (
+            r#"{find: "c", projection: {a: 1, b: 0}, sort: {"a..b": 1}, $db: "t"}"#,
+            "{}",
+        ),
+        9,
+    ),
+    // Of a findAndModify the sort before the update, and that before the fields.
+    (
+        (
+            r#"{findAndModify: "c", update: [], sort: {a: 2}, query: {$foo: 1}, $db: "t"}"#,
+            "{}",
+        ),
+        3,
+    ),
+    (
+        (
+            r#"{findAndModify: "c", update: [], sort: {a: 2}, $db: "t"}"#,
+            "{}",
+        ),
+        4,
+    ),
+    (
+        (
+            r#"{findAndModify: "c", fields: {a: 1, b: 0}, update: [], $db: "t"}"#,
+            "{}",
+        ),
+        29,
+    ),
+    (
+        (
+            r#"{findAndModify: "c", fields: {a: 1, b: 0}, remove: true, $db: "t"}"#,
+            "{}",
+        ),
+        11,
+    ),
+];
+
 #[test]
 fn each_refusal_has_its_kind(rt: HostRuntime) -> Result<(), Fail> {
-    for rows in [FORMS, ITEMS, MODIFIES, OPERANDS] {
+    for rows in [FORMS, ITEMS, MODIFIES, OPERANDS, SHAPES] {
         for ((body, beside), wanted) in rows {
             let told = kind_of(rt.alloc(), (body, beside));
             assert_eq!(rt; told, Some(*wanted), "{body} {beside}");

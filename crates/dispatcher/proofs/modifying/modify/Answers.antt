@@ -4,7 +4,7 @@ use Rattle.dispatcher.proofs.Readings.{read-starved, change-done}
 use Rattle.dispatcher.proofs.modifying.modify.Goals as goal
 
 pub returns-in_default-clause-done : goal.returns-in_default-clause-done
-returns-in_default-clause-done g c = ([], read-starved _ _ _ _ _ _ _)
+returns-in_default-clause-done g c = ([], read-starved _ _ _ _ _ _ _ _)
 
 pub returns-clause-done : goal.returns-clause-done
 returns-clause-done g c =

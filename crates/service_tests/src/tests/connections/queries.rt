@@ -53,7 +53,14 @@ const NINE: &str =
 
 const VALUES: &str = r#"[{_id: 1, a: 1}, {_id: 2, a: [1L, 2]}, {_id: 3, a: "x"}]"#;
 
-static ANSWERED: [Row; 14] = [
+/// Keys of which one is of an array, one of an empty one, and one is absent.
+const KEYS: &str = "[{_id: 1, a: [3, 1]}, {_id: 2, a: 2}, {_id: 3, a: []}, {_id: 4}]";
+
+const NESTED: &str = "[{_id: 1, a: {b: 1, c: 2}}]";
+
+const THREE: &str = "[{_id: 1}, {_id: 2}, {_id: 3}]";
+
+static ANSWERED: [Row; 19] = [
     (
         PATHS,
         r#"{find: "c", filter: {a: 1}, $db: "t"}"#,
@@ -83,6 +90,31 @@ static ANSWERED: [Row; 14] = [
         NINE,
         r#"{find: "d", $db: "t"}"#,
         r#"{cursor: {firstBatch: [], id: 0L, ns: "t.d"}, ok: 1}"#,
+    ),
+    (
+        KEYS,
+        r#"{find: "c", sort: {a: 1}, projection: {_id: 1}, $db: "t"}"#,
+        r#"{cursor: {firstBatch: [{_id: 3}, {_id: 4}, {_id: 1}, {_id: 2}], id: 0L, ns: "t.c"}, ok: 1}"#,
+    ),
+    (
+        KEYS,
+        r#"{find: "c", sort: {a: -1}, projection: {_id: 1}, $db: "t"}"#,
+        r#"{cursor: {firstBatch: [{_id: 1}, {_id: 2}, {_id: 4}, {_id: 3}], id: 0L, ns: "t.c"}, ok: 1}"#,
+    ),
+    (
+        NESTED,
+        r#"{find: "c", projection: {"a.b": 1, _id: 0}, $db: "t"}"#,
+        r#"{cursor: {firstBatch: [{a: {b: 1}}], id: 0L, ns: "t.c"}, ok: 1}"#,
+    ),
+    (
+        THREE,
+        r#"{find: "c", skip: 1, limit: 1, $db: "t"}"#,
+        r#"{cursor: {firstBatch: [{_id: 2}], id: 0L, ns: "t.c"}, ok: 1}"#,
+    ),
+    (
+        THREE,
+        r#"{find: "c", batchSize: 2, singleBatch: true, $db: "t"}"#,
+        r#"{cursor: {firstBatch: [{_id: 1}, {_id: 2}], id: 0L, ns: "t.c"}, ok: 1}"#,
     ),
     (NINE, r#"{count: "c", $db: "t"}"#, "{n: 9, ok: 1}"),
     (NINE, r#"{count: "d", $db: "t"}"#, "{n: 0, ok: 1}"),
@@ -123,6 +155,10 @@ const NOT_SUPPORTED: &str =
 
 const UNKNOWN: &str = r#"{ok: 0, errmsg: "unknown operator", code: 2, codeName: "BadValue"}"#;
 
+const BAD_OPERAND: &str = r#"{ok: 0, errmsg: "bad operand", code: 2, codeName: "BadValue"}"#;
+
+const BAD_PROJECTION: &str = r#"{ok: 0, errmsg: "bad projection", code: 2, codeName: "BadValue"}"#;
+
 const BAD_PATH: &str = r#"{ok: 0, errmsg: "bad path", code: 2, codeName: "BadValue"}"#;
 
 const WRONG_TYPE: &str =
@@ -141,7 +177,7 @@ const INVALID: &str =
 const NO_COMMAND: &str =
     r#"{ok: 0, errmsg: "no such command", code: 59, codeName: "CommandNotFound"}"#;
 
-static REFUSED: [Row; 13] = [
+static REFUSED: [Row; 16] = [
     (NINE, r#"{find: "c"}"#, MISSING),
     (NINE, r#"{find: "c", $db: 1}"#, WRONG_TYPE),
     (NINE, r#"{find: "c", $db: "a b"}"#, INVALID),
@@ -154,6 +190,17 @@ static REFUSED: [Row; 13] = [
         NOT_SUPPORTED,
     ),
     (NINE, r#"{find: "c", filter: {$foo: 1}, $db: "t"}"#, UNKNOWN),
+    (
+        THREE,
+        r#"{find: "c", batchSize: 2, $db: "t"}"#,
+        NOT_SUPPORTED,
+    ),
+    (THREE, r#"{find: "c", sort: {a: 2}, $db: "t"}"#, BAD_OPERAND),
+    (
+        THREE,
+        r#"{find: "c", projection: {a: 1, b: 0}, $db: "t"}"#,
+        BAD_PROJECTION,
+    ),
     (
         NINE,
         r#"{count: "c", query: {a: {$gt: 1, b: 2}}, $db: "t"}"#,

@@ -203,7 +203,7 @@ static DELETES: [Talk; 2] = [
     ),
 ];
 
-static MODIFIES: [Talk; 4] = [
+static MODIFIES: [Talk; 6] = [
     (
         "a removal gives the document that is gone",
         &[
@@ -252,6 +252,40 @@ static MODIFIES: [Talk; 4] = [
             (
                 r#"{findAndModify: "c", query: {_id: 6}, update: {$set: {a: 1}}, upsert: true, new: true, $db: "t"}"#,
                 "{lastErrorObject: {n: 1, updatedExisting: false, upserted: 6}, value: {_id: 6, a: 1}, ok: 1}",
+            ),
+        ],
+    ),
+    (
+        "a sort tells which document is changed, and it keeps its place",
+        &[
+            (
+                r#"{insert: "c", documents: [{_id: 1, a: 1}, {_id: 2, a: 2}], $db: "t"}"#,
+                TWO,
+            ),
+            (
+                r#"{findAndModify: "c", sort: {a: -1}, update: {z: 1}, new: true, $db: "t"}"#,
+                "{lastErrorObject: {n: 1, updatedExisting: true}, value: {_id: 2, z: 1}, ok: 1}",
+            ),
+            (
+                FIND,
+                r#"{cursor: {firstBatch: [{_id: 1, a: 1}, {_id: 2, z: 1}], id: 0L, ns: "t.c"}, ok: 1}"#,
+            ),
+        ],
+    ),
+    (
+        "fields give the document in a shape, which is not stored",
+        &[
+            (
+                r#"{insert: "c", documents: [{_id: 1, a: 1, b: 2}], $db: "t"}"#,
+                ONE,
+            ),
+            (
+                r#"{findAndModify: "c", update: {$inc: {a: 1}}, new: true, fields: {a: 1, _id: 0}, $db: "t"}"#,
+                "{lastErrorObject: {n: 1, updatedExisting: true}, value: {a: 2}, ok: 1}",
+            ),
+            (
+                FIND,
+                r#"{cursor: {firstBatch: [{_id: 1, a: 2, b: 2}], id: 0L, ns: "t.c"}, ok: 1}"#,
             ),
         ],
     ),

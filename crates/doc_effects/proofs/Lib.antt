@@ -1,0 +1,10 @@
+pub mod Completed
+pub mod Plain
+pub mod Keys
+pub mod Renewing
+pub mod Editing
+pub mod Upserting
+pub mod Ending
+pub mod Sizes
+pub mod Displaying
+pub mod Firsts

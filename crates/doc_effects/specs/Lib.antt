@@ -1,0 +1,5 @@
+pub mod Rows
+pub mod Replies
+pub mod Deeds
+pub mod Outcomes
+pub mod Edited

@@ -1,5 +1,0 @@
-use Rattle.doc_store.proofs.Keys.{plain_doc}
-use Rattle.doc_store.proofs.rows.wanted.Goals as goal
-
-pub returns-then-matches-clause-plain : goal.returns-then-matches-clause-plain
-returns-then-matches-clause-plain c = plain_doc c.args.row.now c.in_ok-doc.doc c.requires c.in_ok-doc.ensures
